@@ -1,5 +1,5 @@
 -- What is in a list, and what stands in it once.
-use Rattle.std.proofs.Common.{◌≡◌, ◌≢◌, ◌⊎◌, ◌<◌, ℕ, Bool, true, false, cond, List, [], ◌∷◌, ◌++◌, length, map, Some, None, slice_get, zero, suc, refl, sym, ap, subst, ◌∙◌, inl, inr, arith, get_or, ◌+◌, append-nil, Option, unwrap_or, drop, slice_set}
+use Rattle.std.proofs.Common.{◌≡◌, ◌≢◌, ◌⊎◌, ◌<◌, ℕ, Bool, true, false, cond, List, [], ◌∷◌, ◌++◌, length, map, Some, None, slice_get, All, zero, suc, refl, sym, ap, subst, ◌∙◌, inl, inr, arith, get_or, ◌+◌, append-nil, Option, unwrap_or, drop, slice_set}
 use Rattle.std.specs.Prelude.{filter, not, take}
 use Rattle.std.specs.List.{list_any, Contains}
 use Rattle.std.proofs.lemmas.Bool.{or_cases, or_left, or_right, cases_lt}
@@ -8,7 +8,7 @@ use Rattle.base_words.specs.ListLaws.{HasJoined, HasPlace, OnceJoined, Filtered}
 use Rattle.std.proofs.lemmas.List.Elements.{filter_more}
 use Rattle.std.specs.List.Sorted.{IsStrictlyIncreasing}
 use Rattle.std.specs.Option.{option_map}
-use Rattle.std.proofs.lemmas.Option.{unwrap_or-slice_get}
+use Rattle.std.proofs.lemmas.Option.{unwrap_or-slice_get, slice_get-get_or, slice_get_within}
 
 -- two numbers are the same or not
 pub same_or_not : (a b : ℕ) → (a ≡ b) ⊎ (a ≢ b)
@@ -190,3 +190,23 @@ pub set_same : {A : Type 0} (xs : List A) (k : ℕ) (a : A) → slice_get xs k �
 set_same [] k a at = refl
 set_same (x ∷ xs) zero a at = let e : x ≡ a = cc in ap (λ y. y ∷ xs) (sym e)
 set_same (x ∷ xs) (suc k) a at = ap (λ ys. x ∷ ys) (set_same xs k a at)
+
+-- what all have, the one at a place has
+pub all_at : {A : Type 0} (P : A → Type 0) (xs : List A) → All P xs → (k : ℕ) (x : A) → slice_get xs k ≡ Some x → P x
+all_at P xs all k x at =
+    let lt = slice_get_within xs k x at in
+    let both : Some (get_or xs k x) ≡ Some x = sym (slice_get-get_or xs k x lt) ∙ at in
+    subst P (cc both) (all k x lt)
+
+-- what the one at each place has, all have
+pub all_from : {A : Type 0} (P : A → Type 0) (xs : List A) → ((k : ℕ) (x : A) → slice_get xs k ≡ Some x → P x) → All P xs
+all_from P xs each k x lt = each k (get_or xs k x) (slice_get-get_or xs k x lt)
+
+-- nothing is in the parts of a list in which nothing is
+pub none_left : {A : Type 0} (xs ys : List A) → [] ≡ xs ++ ys → [] ≡ xs
+none_left [] ys e = refl
+none_left (x ∷ xs) ys e = absurd (cc e)
+
+pub none_right : {A : Type 0} (xs ys : List A) → [] ≡ xs ++ ys → [] ≡ ys
+none_right [] ys e = e
+none_right (x ∷ xs) ys e = absurd (cc e)

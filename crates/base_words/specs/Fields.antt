@@ -1,9 +1,13 @@
 -- Blocks, and the little-endian fields in them. A block is a list of 512 bytes.
-use Rattle.std.specs.Prelude.{◌≡◌, ◌+◌, ◌*◌, ◌%◌, ◌^◌, ◌<◌, ℕ, zero, suc, List, ◌++◌, take, drop, length, slice_get, slice_index, Some, slice_index_or, [], Bool, ◌==◌}
+use Rattle.std.specs.Prelude.{◌≡◌, ◌+◌, ◌*◌, ◌%◌, ◌^◌, ◌<◌, ℕ, zero, suc, List, ◌++◌, take, drop, length, slice_get, slice_index, Some, slice_index_or, map, [], Bool, ◌==◌}
 use Rattle.byteorder.specs.Endian.{little_number, little_bytes}
 
 abbrev pub Block : Type 0
 Block = List ℕ
+
+-- the blocks alone, of blocks with their LBNs
+abbrev pub blocks_alone : List (ℕ × Block) → List Block
+blocks_alone seen = map (λ s. s.1) seen
 
 -- each is a byte
 abbrev pub IsBytes : List ℕ → Type 0

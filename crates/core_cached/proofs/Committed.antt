@@ -157,6 +157,7 @@ answer_on g c base own nodes drive n x r sole u knows all reply =
     record {
       cat = record h.leaves.cat { opens = h.opens };
       new = h.leaves.new;
+      moves = h.leaves.moves;
       answer = h.answer;
       under = opens_on g h.leaves.cat (written (writes_to (nodes n).done (nodes n)) base) h.leaves.new (changed nodes n (idle (nodes n))) drive h.opens (commit_on g c base own nodes drive n sole u h.leaves);
     }

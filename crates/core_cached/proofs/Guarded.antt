@@ -2,6 +2,7 @@
 use Rattle.std.proofs.Common.{◌≡◌, ◌∙◌, ◌⊎◌, ◌/◌, ◌-◌, ◌==◌, ℕ, Bool, true, false, List, Option, Some, None, Result, Ok, Err, slice_get, get_or, if◌then◌else◌, refl, sym, ap, subst, inl, inr, arith}
 use Rattle.base_words.specs.Fields.{Block}
 use Rattle.fx_header.specs.declared.run.Run.{Run}
+use Rattle.fx_header.specs.declared.slot.Hdr.{Hdr}
 use Rattle.fx_header.specs.declared.slot.Slot.{Slot as Head}
 use Rattle.fx_header.specs.declared.slot.Slot.TheVariants as head
 use Rattle.fx_header.specs.declared.slot.HeaderFault.{HeaderFault}
@@ -27,7 +28,8 @@ use Rattle.vol_spell.specs.Spelling.{Spells}
 use Rattle.vol_spell.proofs.Parts.{slot_there, told}
 use Rattle.vol_under.specs.Guards.{Guard, Lock, guard_by, guard_of, lock_of_part}
 use Rattle.op_law.specs.Laws.{IsCacheable, Fixed, OfDirectory, is_dir_told, KeepsRuns, Freed, NoDir, Same}
-use Rattle.vol_spell.proofs.HeadSlots.{alone_runs}
+use Rattle.vol_spell.proofs.Heads.{used_first}
+use Rattle.vol_spell.proofs.HeadSlots.{alone_runs, dir_slot}
 use Rattle.core_cached.specs.Staying.{IsGuarded, IsFreed, DirsStay, SpacesStay, DeathsStay}
 
 -- ---- guards
@@ -128,12 +130,21 @@ module _ (g : Geometry) (bs : List Block) (own : Owners) (c : Cat) (s : Spells g
       let tells_it = told g bs own c s n number in
       (h.0, ap file_in its ∙ ap (λ y. file_in (Some y)) (sym tells_it.slot ∙ h.1), h.2)
 
-  -- its clusters are those of the runs of its one header
-  in_runs : (q : ℕ) → slice_get own.clusters q ≡ Some (InFile n) → Has (clusters_of g.cluster (runs_told (header_block g bs n))) q
-  in_runs q e = subst (λ (rs : List Run). Has (clusters_of g.cluster rs) q) (alone_runs g bs own c s n number) (((told g bs own c s n number).runs q).1 e)
+  -- what is told of a directory is told by its one header
+  dir_alone : is_dir_told (fields_told (header_block g bs n)) ≡ true → (told_of g bs n).runs ≡ runs_told (header_block g bs n)
+  dir_alone dir = by_fields (fields_told (header_block g bs n)) refl dir where
+    by_fields : (o : Option Hdr) → fields_told (header_block g bs n) ≡ o → is_dir_told o ≡ true → (told_of g bs n).runs ≡ runs_told (header_block g bs n)
+    by_fields None e d = absurd (let x : false ≡ true = d in cc)
+    by_fields (Some h) e d =
+        let reads = used_first (header_block g bs n) h e in
+        alone_runs g bs n h reads (dir_slot g bs own c s n h number reads d)
 
-  of_runs : (q : ℕ) → Has (clusters_of g.cluster (runs_told (header_block g bs n))) q → slice_get own.clusters q ≡ Some (InFile n)
-  of_runs q h = ((told g bs own c s n number).runs q).0 (subst (λ (rs : List Run). Has (clusters_of g.cluster rs) q) (sym (alone_runs g bs own c s n number)) h)
+  -- so its clusters are those of the runs of this header
+  in_runs : is_dir_told (fields_told (header_block g bs n)) ≡ true → (q : ℕ) → slice_get own.clusters q ≡ Some (InFile n) → Has (clusters_of g.cluster (runs_told (header_block g bs n))) q
+  in_runs dir q e = subst (λ (rs : List Run). Has (clusters_of g.cluster rs) q) (dir_alone dir) (((told g bs own c s n number).runs q).1 e)
+
+  of_runs : is_dir_told (fields_told (header_block g bs n)) ≡ true → (q : ℕ) → Has (clusters_of g.cluster (runs_told (header_block g bs n))) q → slice_get own.clusters q ≡ Some (InFile n)
+  of_runs dir q h = ((told g bs own c s n number).runs q).0 (subst (λ (rs : List Run). Has (clusters_of g.cluster rs) q) (sym (dir_alone dir)) h)
 
 pub dirs_stay : DirsStay
 dirs_stay g base new own other c d name l s after heads is = by_kind is.kind where
@@ -152,7 +163,7 @@ dirs_stay g base new own other c d name l s after heads is = by_kind is.kind whe
       by_head (Freed last e) = inr (record { number = n; is = named; valid = number; was = was_dir; last = last; slot = e })
       by_head (NoDir e) = absurd (let x : false ≡ true = sym e ∙ was_dir in cc)
       by_head (Same is_dir same) = inl (
-        of_runs g new other d after n number (l / g.cluster) (subst (λ rs. Has (clusters_of g.cluster rs) (l / g.cluster)) (sym same) (in_runs g base own c s n number (l / g.cluster) owner)),
+        of_runs g new other d after n number is_dir (l / g.cluster) (subst (λ rs. Has (clusters_of g.cluster rs) (l / g.cluster)) (sym same) (in_runs g base own c s n number was_dir (l / g.cluster) owner)),
         told_dir g new other d after n number is_dir,
       )
 

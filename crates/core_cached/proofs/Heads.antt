@@ -62,7 +62,7 @@ same_got : (xs ys : List Block) (l : ℕ) (d : Block) → slice_get xs l ≡ sli
 same_got xs ys l d e = got xs l d ∙ ap (λ o. block_or o d) e ∙ sym (got ys l d)
 
 -- a header is as it was, or what one of the writes has made it
-head_after : (g : Geometry) (ws : List PlanWrite) (bs : List Block) (i : ℕ) → (header_block g (written (bare (map planned ws)) bs) i ≡ header_block g bs i)
+pub head_after : (g : Geometry) (ws : List PlanWrite) (bs : List Block) (i : ℕ) → (header_block g (written (bare (map planned ws)) bs) i ≡ header_block g bs i)
     ⊎ ((w : PlanWrite) × Has ws w × (w.lbn ≡ header_place g i) × (header_block g (written (bare (map planned ws)) bs) i ≡ w.block))
 head_after g ws bs i = by_old (slice_get bs (header_place g i)) refl where
   new : List Block

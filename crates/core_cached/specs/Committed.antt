@@ -13,7 +13,7 @@ use Rattle.base_words.specs.Lists.{Has, Touches, StandsIn, written}
 use Rattle.vol_spell.specs.Owners.{Owners, OwnersMove, IsSpaceMove, Things, Outs}
 use Rattle.vol_parts.specs.declared.geometry.Geometry.{Geometry}
 use Rattle.vol_spell.specs.Spelling.{Spells}
-use Rattle.vol_under.specs.Guards.{guard_of, MayWrite, MayLook}
+use Rattle.vol_under.specs.Guards.{guard_of, MayWrite, MayLook, IsCommandMove}
 use Rattle.vol_under.specs.UnderWay.{PlannedWrite, bare, UnderWay, writes_to, idle, changed, AreSole}
 use Rattle.vol_under.specs.Under.{IsOver, Leaves, IsLawful, IsUnder}
 use Rattle.vol_under.specs.Keeping.{Refills, IsBitmap}
@@ -85,10 +85,12 @@ abbrev pub CommitOn : Type 0
 CommitOn = (g : Geometry) (c : Cat) (base : List Block) (own : Owners) (nodes : ℕ → UnderWay) (drive : List Block) (n : ℕ) → AreSole nodes → IsUnderOn g c base own nodes drive → (h : Leaves g n (nodes n) base own c (nodes n).stock (nodes n).done)
     → IsUnderOn g h.cat (written (writes_to (nodes n).done (nodes n)) base) h.new (changed nodes n (idle (nodes n))) drive
 
--- What a node's answer leaves: the catalogue in which its command has happened, over the blocks with its writes.
+-- What a node's answer leaves: the catalogue in which its command has happened, over the blocks with its writes, and owners that the
+-- command may move.
 pub record AnswersOn (g : Geometry) (c : Cat) (base : List Block) (own : Owners) (nodes : ℕ → UnderWay) (drive : List Block) (n : ℕ) (x : Cmd) (r : Reply) : Type 0 where
   pub cat : Cat
   pub new : Owners
+  pub moves : OwnersMove (IsCommandMove n (nodes n).write) own new
   pub answer : Answer c n x r cat
   pub under : IsUnderOn g cat (written (writes_to (nodes n).done (nodes n)) base) new (changed nodes n (idle (nodes n))) drive
 

@@ -1,4 +1,4 @@
--- No command makes as many events as are allowed for, and no close more than 127; and a command has its answer left.
+-- No command makes as many events as are allowed for, and no close more than 191; and a command has its answer left.
 use Rattle.std.proofs.Common.{◌≡◌, ◌⊎◌, ◌≤◌, ◌<◌, ◌+◌, ◌-◌, ◌*◌, min, ℕ, zero, suc, Bool, true, false, cond, List, [], ◌∷◌, Option, Some, None, length, slice_get, refl, sym, ap, subst, ◌∙◌, inl, inr, arith}
 use Rattle.std.specs.Prelude.{sum_by}
 use Rattle.std.proofs.lemmas.List.{length-append, length-take}
@@ -110,7 +110,7 @@ behind (y ∷ xs) (suc k) e = let h = behind xs k e in omega arith
 -- it answers a line, or closes a channel behind its lines
 pub data HasAnswer (lines answered steps : ℕ) : Type 0 where
   Line : answered < lines → steps < command_steps → HasAnswer lines answered steps
-  Close : lines ≤ answered → answered < lines + 8 → steps < 128 → HasAnswer lines answered steps
+  Close : lines ≤ answered → answered < lines + 8 → steps < 192 → HasAnswer lines answered steps
 
 pub answer_left : (lines answered steps : ℕ) → HasAnswer lines answered steps → steps < answers_left lines answered
 answer_left lines answered steps (Line lt le) = omega arith
@@ -143,7 +143,7 @@ module _ (w : Plain) (good : Good w) (n : ℕ) (s : NodeState) (at : node_at w.n
     brief : IsBrief x s.seen
     brief = (now w good n s at x has).lawful.brief n s.seen (drive_so w good n s at).base (drive_so w good n s at).own good.running.cat (now w good n s at x has).seen (seen_on w good n s at x has)
 
-    asked_few : length s.asked ≤ 5
+    asked_few : length s.asked ≤ 20
     asked_few =
         let a = ask_few s.seen.locks (own_ask s.tried s.plan) in
         let b = ap (λ (ls : Row). length ls) (now w good n s at x has).same in
@@ -165,13 +165,13 @@ module _ (w : Plain) (good : Good w) (n : ℕ) (s : NodeState) (at : node_at w.n
         let e = most_few x in
         omega arith
 
-    close_few : (chan : ℕ) → x ≡ cmd.CloseFile chan → steps_of s < 128
+    close_few : (chan : ℕ) → x ≡ cmd.CloseFile chan → steps_of s < 192
     close_few chan is =
         let a = asked_few in
         let b = brief.blocks in
         let c = idle_rules (by_space (me w good n s at).space) in
         let d = plan_few in
-        let e : most_writes x ≡ 30 = ap most_writes is in
+        let e : most_writes x ≡ 40 = ap most_writes is in
         omega arith where
           by_space : Spaces s.cmd s.kept s.claims s.run s.stock s.seen → s.run.phase ≡ phase.Off ⊎ (s.run.phase ≡ phase.Back)
           by_space (Off h) = inl (ap (λ (k : SpaceRun). k.phase) h.run)

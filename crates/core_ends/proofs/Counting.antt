@@ -16,7 +16,7 @@ use Rattle.op_law.specs.declared.need.PlanWrite.{PlanWrite}
 use Rattle.op_law.specs.Writing.{with_numbers}
 use Rattle.core_space.specs.Searching.{places, cluster_places, taken_in, cluster_write, cluster_writes, free_number, number_write, More, Short, Enough, found_number, found}
 use Rattle.core_space.specs.Taking.{looked}
-use Rattle.core_space.specs.Answering.{blocks_of}
+use Rattle.core_space.specs.Answering.{blocks_alone}
 use Rattle.core_space.proofs.Ways.{enough_of}
 use Rattle.core_space.specs.declared.run.SpaceRun.{SpaceRun}
 use Rattle.core_space.specs.Filling.{clusters_to_take, storage_part, numbers_taken, clusters_taken, index_writes, storage_writes, fill_writes, suffices, filled}
@@ -178,9 +178,9 @@ places_few g k t geo = by_number t (by_clusters k) where
   by_number true le = omega arith
   by_number false le = omega arith
 
-pub looked_few : (g : Geometry) (k : ℕ) (t : Bool) (ls : List (ℕ × Block)) → IsGeometry g → ls ≡ looked g k t (blocks_of ls) → length ls ≤ 17
+pub looked_few : (g : Geometry) (k : ℕ) (t : Bool) (ls : List (ℕ × Block)) → IsGeometry g → ls ≡ looked g k t (blocks_alone ls) → length ls ≤ 17
 looked_few g k t ls geo e =
-    let z = length-zip (places g k t) (blocks_of ls) in
+    let z = length-zip (places g k t) (blocks_alone ls) in
     let few = places_few g k t geo in
     let same = ap (λ (bs : List (ℕ × Block)). length bs) e in
     omega arith
@@ -259,5 +259,5 @@ write_within [] k v e = absurd (let f : None ≡ Some v = e in cc)
 write_within (y ∷ ws) zero v e = omega arith
 write_within (y ∷ ws) (suc k) v e = let h = write_within ws k v e in omega arith
 
-pub blocks_few : (ls : List (ℕ × Block)) → length (blocks_of ls) ≡ length ls
+pub blocks_few : (ls : List (ℕ × Block)) → length (blocks_alone ls) ≡ length ls
 blocks_few ls = length-map ls (λ l. l.1)

@@ -30,6 +30,7 @@ use Rattle.core_state.proofs.Beginning.{begins}
 use Rattle.core_state.proofs.Preparing.{rests_prepared, readied_is}
 use Rattle.core_state.proofs.Turning.{may_need}
 use Rattle.core_state.proofs.Turns.{prepares_keep}
+use Rattle.core_state.proofs.Wants.{wants_alike}
 use Rattle.core_ends.specs.Measure.{by_claim, rule_steps, answers_left, return_by, return_left, steps_of, rest_of, left_in, left_from, left, TurnsLeaveLess}
 use Rattle.core_ends.proofs.Sums.{alive_left, same_some, none_some}
 use Rattle.core_ends.proofs.Bounds.{without_steps}
@@ -224,7 +225,7 @@ settled w n q good there after there_then on free = by_case (served_is q) where
         let z : Some x ≡ Some y = sym f ∙ cmd in
         let same : x ≡ y = cc in
         let k_is : k ≡ wanted_by x r.seen = had.0.clusters_are ∙ ap (λ (t : Cmd). wanted_by t q.seen) (sym same) in
-        let b_is : b ≡ numbered_by x r.seen = had.0.number_is ∙ ap (λ (t : Cmd). numbered_by t q.seen) (sym same) in
+        let b_is : b ≡ numbered_by x r.seen = had.0.number_is ∙ ap (λ (t : Cmd). numbered_by t q.seen) (sym same) ∙ wants_alike x q.seen r.seen refl refl in
         not_again (with_node w n r) good_r n r there_r on_r x f free (next ∙ (λ i. need.Space (u i) (v i))) ((λ i. has_space (sym k_is i) (sym b_is i) (space_of r.seen)) ∙ gives_all q k b does)
 
 served_less : (script : Script) (n : ℕ) (q : NodeState) → left_in script n (served q) ≤ left_in script n q

@@ -69,6 +69,10 @@ module _ (w : Plain) (good : Good w) (accepted : IsAccepted w.opening) where
   sound : IsSound cat
   sound = replay_sound w.opening w.script w.history cat (accepted_is_sound accepted.0 w.opening accepted.1 accepted.2) good.running.replayed
 
+  -- the order of names on the committed blocks
+  abbrev Before : LockName → LockName → Type 0
+  Before a b = IsBefore w.geometry good.running.drive.base good.running.drive.own cat a b
+
   abbrev Node : ℕ → Type 0
   Node m = is_over w m ≡ false
 
@@ -117,7 +121,7 @@ module _ (w : Plain) (good : Good w) (accepted : IsAccepted w.opening) where
     q = h.state
 
     abbrev Next : Type 0
-    Next = (k : ℕ) × Node k × (Moves w k ⊎ ((b : LockName) × Stuck k b × IsBefore cat a b))
+    Next = (k : ℕ) × Node k × (Moves w k ⊎ ((b : LockName) × Stuck k b × Before a b))
 
     moved : (k : ℕ) × Moves w k → Next
     moved (k, moves) = (k, moves.0, inl moves)
@@ -159,7 +163,7 @@ module _ (w : Plain) (good : Good w) (accepted : IsAccepted w.opening) where
         | inr f ↦ by_asked f.1 (asks w good m q h.at f.1)
       ]
 
-  held : (n : ℕ) (a : LockName) → Node n → Stuck n a → (k : ℕ) × Node k × (Moves w k ⊎ ((b : LockName) × Stuck k b × IsBefore cat a b))
+  held : (n : ℕ) (a : LockName) → Node n → Stuck n a → (k : ℕ) × Node k × (Moves w k ⊎ ((b : LockName) × Stuck k b × Before a b))
   held n a here s =
       step n a s (holder w good n s.state (a, s.mode) s.front s.at (subst (λ (ls : Row). Has (rows_of s.state) ls) s.last (inr (inl refl))) (sym (ap (waits_at w.locks n) s.last) ∙ s.waits) (far_own a s.own))
 
@@ -173,7 +177,7 @@ module _ (w : Plain) (good : Good w) (accepted : IsAccepted w.opening) where
       asked : (e : waits_at w.locks n s.asked ≡ true) (b : Asks w good n s at) → (m : ℕ) × Moves w m
       asked e b = elim (by_asks n s at e b) [
         | inl k ↦ k
-        | inr k ↦ somebody (IsBefore cat) (then cat) (λ a p. never cat a sound p) Node Stuck one (Moves w) held (upto (length w.nodes)) all_nodes n b.name alive k
+        | inr k ↦ somebody Before (then w.geometry good.running.drive.base good.running.drive.own cat) (λ a p. never w.geometry good.running.drive.base good.running.drive.own cat a sound p) Node Stuck one (Moves w) held (upto (length w.nodes)) all_nodes n b.name alive k
       ]
 
       by_stands : (t : Bool) → stands w n s ≡ t → (m : ℕ) × Moves w m

@@ -1,5 +1,6 @@
 -- The order of names is a strict one, where no chain of entries returns.
 use Rattle.std.proofs.Common.{◌≡◌, ℕ, zero, suc, List, [], ◌∷◌, Some, None, Contains, slice_get, refl, sym, subst, ◌∙◌, arith}
+use Rattle.base_words.specs.Fields.{Block}
 use Rattle.lock_db.specs.declared.name.LockName.{LockName}
 use Rattle.lock_db.specs.declared.name.LockName.TheVariants.{S}
 use Rattle.plain_cat.specs.declared.entries.DirEnt.{DirEnt}
@@ -7,6 +8,8 @@ use Rattle.plain_cat.specs.declared.cat.Cat.{Cat}
 use Rattle.plain_mends.specs.Sound.{LeadsTo, IsSound}
 use Rattle.plain_mends.specs.Sound as sound
 use Rattle.plain_rules.specs.SystemFiles.{entries_of}
+use Rattle.vol_parts.specs.declared.geometry.Geometry.{Geometry}
+use Rattle.vol_spell.specs.Owners.{Owners}
 use Rattle.op_law.specs.Order.{NamesNumber, NumberPath, One, More, IsBefore, Higher, Named}
 
 get_contains : (es : List DirEnt) (k : ℕ) (e : DirEnt) → slice_get es k ≡ Some e → Contains es e
@@ -26,18 +29,18 @@ joined : (c : Cat) (a b d : ℕ) → NumberPath c a b → NumberPath c b d → N
 joined c a b d p (One l) = More p l
 joined c a b d p (More {k} q l) = More (joined c a b k p q) l
 
-pub then : (c : Cat) (a b d : LockName) → IsBefore c a b → IsBefore c b d → IsBefore c a d
-then c a b d (Higher p) (Higher q) = Higher (omega arith)
-then c a b d (Higher p) (Named y m f g low high q) = absurd (omega arith)
-then c a b d (Named x n f g low high p) (Higher q) = Higher (omega arith)
-then c a b d (Named x n f g low high p) (Named y m f' g' low' high' q) =
-    let e : S n ≡ S y = sym g ∙ f' in
+pub then : (g : Geometry) (bs : List Block) (own : Owners) (c : Cat) (a b d : LockName) → IsBefore g bs own c a b → IsBefore g bs own c b d → IsBefore g bs own c a d
+then g bs own c a b d (Higher p) (Higher q) = Higher (omega arith)
+then g bs own c a b d (Higher p) (Named y m f e low high q) = absurd (omega arith)
+then g bs own c a b d (Named x n f e low high p) (Higher q) = Higher (omega arith)
+then g bs own c a b d (Named x n f e low high p) (Named y m f' e' low' high' q) =
+    let both : S n ≡ S y = sym e ∙ f' in
     let same : n ≡ y = cc in
-    Named x m f g' low high' (joined c x n m p (subst (λ (k : ℕ). NumberPath c k m) (sym same) q))
+    Named x m f e' low high' (joined c x n m p (subst (λ (k : ℕ). NumberPath c k m) (sym same) q))
 
-pub never : (c : Cat) (a : LockName) → IsSound c → IsBefore c a a → ⊥
-never c a s (Higher p) = absurd (omega arith)
-never c a s (Named x n f g low high p) =
-    let e : S n ≡ S x = sym g ∙ f in
+pub never : (g : Geometry) (bs : List Block) (own : Owners) (c : Cat) (a : LockName) → IsSound c → IsBefore g bs own c a a → ⊥
+never g bs own c a s (Higher p) = absurd (omega arith)
+never g bs own c a s (Named x n f e low high p) =
+    let both : S n ≡ S x = sym e ∙ f in
     let same : n ≡ x = cc in
     s.ordered x (path c x x (subst (λ (k : ℕ). NumberPath c x k) same p))

@@ -24,7 +24,7 @@ use Rattle.extent_cache.specs.Takings.{holds_enough}
 use Rattle.core_space.specs.declared.outcome.Search.{Search}
 use Rattle.core_space.specs.declared.outcome.Search.TheVariants as search
 use Rattle.core_space.specs.Searching.{places}
-use Rattle.core_space.specs.Answering.{answered, answer, blocks_of}
+use Rattle.core_space.specs.Answering.{answered, answer, blocks_alone}
 use Rattle.core_space.proofs.Taken.{takes_all}
 use Rattle.core_space.specs.declared.run.Phase.{Phase}
 use Rattle.core_space.specs.declared.run.Phase.TheVariants as phase
@@ -282,7 +282,7 @@ module _ (w : Plain) (good : Good w) (n : ℕ) (s : NodeState) (at : node_at w.n
     drain_to : s.run.phase ≡ phase.Drain → (o : Option PlanWrite) (l : Option ℕ) → slice_get s.run.writes s.run.made ≡ o → next_give st ≡ l → now_by ≡ by_rule s phase.Drain nd (drain_so o l)
     drain_to ph o l eo el = at_phase phase.Drain ph ∙ (λ i. by_rule s phase.Drain nd (drain_so (eo i) (el i)))
 
-    last_to : s.run.phase ≡ phase.Last → (a d : Bool) (o : Option PlanWrite) (r : Search) → is_exclusive (mode_in X ls) ≡ a → is_writer (mode_in V ls) ≡ d → slice_get s.run.writes s.run.made ≡ o → answer g k c (blocks_of s.run.looked) ≡ r → now_by ≡ by_rule s phase.Last nd (last_so a d o r)
+    last_to : s.run.phase ≡ phase.Last → (a d : Bool) (o : Option PlanWrite) (r : Search) → is_exclusive (mode_in X ls) ≡ a → is_writer (mode_in V ls) ≡ d → slice_get s.run.writes s.run.made ≡ o → answer g k c (blocks_alone s.run.looked) ≡ r → now_by ≡ by_rule s phase.Last nd (last_so a d o r)
     last_to ph a d o r ea ed eo er = at_phase phase.Last ph ∙ (λ i. by_rule s phase.Last nd (last_so (ea i) (ed i) (eo i) (er i)))
 
     abbrev put_now : Option PlanWrite
@@ -376,7 +376,7 @@ module _ (w : Plain) (good : Good w) (n : ℕ) (s : NodeState) (at : node_at w.n
           few_looked = looked_few g 1 (lacks_by x s.seen s.stock) s.run.looked geo h.filling.in_order
 
           looks : (lbn : ℕ) (b : Block) (es : List Cached) (reads hits : ℕ) → FallsTo (space_seen_so s k c lbn b es reads hits)
-          looks lbn b es reads hits = subst (λ (p : Phase). FallsTo (come lbn b es reads hits (decision_in p g (more lbn b es reads hits) (roomless s.stock) nd))) (sym h.filling.fill) (by_place (fill_place g (clusters_to_take k (length s.stock.clusters)) (lacks_number c s.stock.numbers) (blocks_of (more lbn b es reads hits)))) where
+          looks lbn b es reads hits = subst (λ (p : Phase). FallsTo (come lbn b es reads hits (decision_in p g (more lbn b es reads hits) (roomless s.stock) nd))) (sym h.filling.fill) (by_place (fill_place g (clusters_to_take k (length s.stock.clusters)) (lacks_number c s.stock.numbers) (blocks_alone (more lbn b es reads hits)))) where
             stays : (d : Decision) → d.phase ≡ phase.Fill → FallsTo (come lbn b es reads hits d)
             stays d e = look_falls lbn b es reads hits d (λ f. not_fill (sym e ∙ f))
                 (let a = fill_now h.filling in
@@ -403,7 +403,7 @@ module _ (w : Plain) (good : Good w) (n : ℕ) (s : NodeState) (at : node_at w.n
 
             by_place : (o : Option ℕ) → FallsTo (come lbn b es reads hits (fill_by g (s.run.looked ++ (lbn, b) ∷ []) (roomless s.stock) nd o))
             by_place (Some l) = stays (looks_on phase.Fill) refl
-            by_place None = by_filled (filled g k (length s.stock.clusters) (lacks_number c s.stock.numbers) (blocks_of (s.run.looked ++ (lbn, b) ∷ [])))
+            by_place None = by_filled (filled g k (length s.stock.clusters) (lacks_number c s.stock.numbers) (blocks_alone (s.run.looked ++ (lbn, b) ∷ [])))
 
     grabs_fall : FillWrites x s.kept s.claims s.run s.stock s.seen → FallsBy now_by
     grabs_fall h =
@@ -412,7 +412,7 @@ module _ (w : Plain) (good : Good w) (n : ℕ) (s : NodeState) (at : node_at w.n
         (wrote_falls v.write
         (let a = fill_now h.filling in
         let few = looked_few g 1 (lacks_by x s.seen s.stock) s.run.looked geo h.filling.in_order in
-        let b = filled_few g k (length s.stock.clusters) (lacks_by x s.seen s.stock) (blocks_of s.run.looked) s.run.writes h.enough in
+        let b = filled_few g k (length s.stock.clusters) (lacks_by x s.seen s.stock) (blocks_alone s.run.looked) s.run.writes h.enough in
         let d = blocks_few s.run.looked in
         let p = h.part in
         let z : rule_steps g (stock_after v.write) s.claims run_after s.run.phase ≡ 130 + min 60 (length s.run.looked + (s.run.made + 1))
@@ -422,7 +422,7 @@ module _ (w : Plain) (good : Good w) (n : ℕ) (s : NodeState) (at : node_at w.n
     filled_falls : HasFilled x s.kept s.claims s.run s.stock s.seen → FallsBy now_by
     filled_falls h =
         let le : length s.run.writes ≤ s.run.made = let e = h.all in omega arith in
-        subst FallsBy (sym (fill_to h.fill true true None None (ap is_shared (mode_kept X CR h.shared)) (writer_now h.claims) (none_behind s.run.writes s.run.made le) (fill_over g k c s.stock (blocks_of s.run.looked) h.enough)))
+        subst FallsBy (sym (fill_to h.fill true true None None (ap is_shared (mode_kept X CR h.shared)) (writer_now h.claims) (none_behind s.run.writes s.run.made le) (fill_over g k c s.stock (blocks_alone s.run.looked) h.enough)))
         (steps_fall (turned (lowering s)) refl refl
         (let a : rules_now ≡ 130 + min 60 (length s.run.looked + s.run.made) = rules_at phase.Fill h.fill ∙ by_v s.claims 200 1 (130 + min 60 (length s.run.looked + s.run.made)) h.claims in omega arith)
         (no_more g g s.stock s.stock s.kept (s.kept ++ (V, NL) ∷ []) s.run (begun_run phase.Fill) calmly not_fill goes)) where
@@ -481,9 +481,9 @@ module _ (w : Plain) (good : Good w) (n : ℕ) (s : NodeState) (at : node_at w.n
 
     alone_falls : AsksAlone x s.kept s.claims s.run s.stock s.seen → FallsBy now_by
     alone_falls h = elim h.claims [
-      | inl e ↦ subst FallsBy (sym (last_to ph false (is_writer (mode_in V ls)) put_now (answer g k c (blocks_of s.run.looked)) (ap is_exclusive (mode_kept X NL e.1)) refl refl refl))
+      | inl e ↦ subst FallsBy (sym (last_to ph false (is_writer (mode_in V ls)) put_now (answer g k c (blocks_alone s.run.looked)) (ap is_exclusive (mode_kept X NL e.1)) refl refl refl))
           (claim_falls phase.Last X EX not_last (let a = was in let b = by_none s.claims 400 401 (402 + min 60 (length s.run.looked + s.run.made)) e.0 in omega arith) no_x_left)
-      | inr e ↦ subst FallsBy (sym (last_to ph true false put_now (answer g k c (blocks_of s.run.looked)) (ap is_exclusive (mode_claimed (X, EX) e)) (no_writer (x_claim EX e)) refl refl))
+      | inr e ↦ subst FallsBy (sym (last_to ph true false put_now (answer g k c (blocks_alone s.run.looked)) (ap is_exclusive (mode_claimed (X, EX) e)) (no_writer (x_claim EX e)) refl refl))
           (claim_falls phase.Last V PW not_last (let a = was in let b = by_x s.claims EX 400 401 (402 + min 60 (length s.run.looked + s.run.made)) e in omega arith)
           (v_leaves (λ i. absurd (let z : EX ≡ CR = ap (λ (l : LockName × Mode). l.1) (one_of s.claims (X, EX) (X, CR) e i) in cc))))
     ] where
@@ -495,7 +495,7 @@ module _ (w : Plain) (good : Good w) (n : ℕ) (s : NodeState) (at : node_at w.n
 
     looking_falls : IsLooking x s.kept s.claims s.run s.stock s.seen → FallsBy now_by
     looking_falls h =
-        let bs : List Block = blocks_of s.run.looked in
+        let bs : List Block = blocks_alone s.run.looked in
         let lbn : ℕ = slice_index_or (places g k c) (length bs) 0 in
         let looks_next : answer g k c bs ≡ search.Look lbn = ap (answered lbn) h.more in
         subst FallsBy (sym (last_to h.claimed_so.last true true None (search.Look lbn) (ap is_exclusive (mode_kept X EX h.claimed_so.alone)) (writer_now h.claimed_so.claims) (none_at s.run.writes s.run.made h.writes) looks_next))
@@ -504,7 +504,7 @@ module _ (w : Plain) (good : Good w) (n : ℕ) (s : NodeState) (at : node_at w.n
           few = looked_few g k c s.run.looked geo h.claimed_so.in_order
 
           looks : (lbn : ℕ) (b : Block) (es : List Cached) (reads hits : ℕ) → FallsTo (space_seen_so s k c lbn b es reads hits)
-          looks lbn b es reads hits = subst (λ (p : Phase). FallsTo (come lbn b es reads hits (decision_in p g (more lbn b es reads hits) (roomless s.stock) nd))) (sym h.claimed_so.last) (by_search_of (answer g k c (blocks_of (s.run.looked ++ (lbn, b) ∷ [])))) where
+          looks lbn b es reads hits = subst (λ (p : Phase). FallsTo (come lbn b es reads hits (decision_in p g (more lbn b es reads hits) (roomless s.stock) nd))) (sym h.claimed_so.last) (by_search_of (answer g k c (blocks_alone (s.run.looked ++ (lbn, b) ∷ [])))) where
             goes : (d : Decision) → d.phase ≡ phase.Last → FallsTo (come lbn b es reads hits d)
             goes d e = look_falls lbn b es reads hits d (λ f. not_last (sym e ∙ f))
                 (let a : rules_now ≡ 402 + min 60 (length s.run.looked + s.run.made) = rules_at phase.Last h.claimed_so.last ∙ by_v s.claims 400 401 (402 + min 60 (length s.run.looked + s.run.made)) h.claimed_so.claims in
@@ -524,11 +524,11 @@ module _ (w : Plain) (good : Good w) (n : ℕ) (s : NodeState) (at : node_at w.n
     taking_falls h =
         let v = some_at s.run.writes s.run.made h.part in
         let d = h.found.claimed_so in
-        subst FallsBy (sym (last_to d.last true true (Some v.write) (answer g k c (blocks_of s.run.looked)) (ap is_exclusive (mode_kept X EX d.alone)) (writer_now d.claims) v.at refl ∙ ap by_put v.at))
+        subst FallsBy (sym (last_to d.last true true (Some v.write) (answer g k c (blocks_alone s.run.looked)) (ap is_exclusive (mode_kept X EX d.alone)) (writer_now d.claims) v.at refl ∙ ap by_put v.at))
         (wrote_falls v.write
         (let a : rules_now ≡ 402 + min 60 (length s.run.looked + s.run.made) = rules_at phase.Last d.last ∙ by_v s.claims 400 401 (402 + min 60 (length s.run.looked + s.run.made)) d.claims in
         let few = looked_few g k c s.run.looked geo d.in_order in
-        let b = found_few g k c (blocks_of s.run.looked) s.run.writes h.found.enough in
+        let b = found_few g k c (blocks_alone s.run.looked) s.run.writes h.found.enough in
         let e = blocks_few s.run.looked in
         let p = h.part in
         let z : rule_steps g (stock_after v.write) s.claims run_after s.run.phase ≡ 402 + min 60 (length s.run.looked + (s.run.made + 1))
@@ -539,7 +539,7 @@ module _ (w : Plain) (good : Good w) (n : ℕ) (s : NodeState) (at : node_at w.n
 
     taken_not : HasTaken x s.kept s.claims s.run s.stock s.seen → ⊥
     taken_not h =
-        let all_so = takes_all g k c (blocks_of s.run.looked) s.run.writes h.found.enough in
+        let all_so = takes_all g k c (blocks_alone s.run.looked) s.run.writes h.found.enough in
         let no_clusters : wanted_by x s.seen ≡ 0 = sym (ap length (sym has_none.clusters ∙ h.clusters) ∙ all_so.clusters) in
         let no_number : numbered_by x s.seen ≡ false = sym (ap is_some (sym has_none.number ∙ h.number) ∙ all_so.number) in
         wanted (no_clusters, no_number)

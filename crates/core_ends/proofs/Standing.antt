@@ -10,6 +10,7 @@ use Rattle.plain_cat.specs.declared.cat.Cat.{Cat}
 use Rattle.base_words.specs.Fields.{Block}
 use Rattle.base_words.specs.Lists.{Has}
 use Rattle.vol_spell.specs.Owners.{Owners, Outs}
+use Rattle.vol_parts.specs.declared.geometry.Geometry.{Geometry}
 use Rattle.base_words.proofs.Listing.{has_parted, has_first, has_second}
 use Rattle.base_words.proofs.ListWrites.{stands_joined}
 use Rattle.node_locks.specs.Held.{Row, names_of, HoldsItsLocks, is_queued_at, waits_at, held_locks, all_held}
@@ -180,7 +181,7 @@ module _ (w : Plain) (good : Good w) (n : ℕ) (s : NodeState) (at : node_at w.n
     pub fits : HasSeen command before
     pub on : IsSeenOn n command before base own cat
     pub space : space_of before ≡ space_of s.seen
-    pub new : IsNewLock command cat before.locks s.seen.number name mode
+    pub new : IsNewLock command w.geometry good.running.drive.base good.running.drive.own cat before.locks s.seen.number name mode
 
   pub asks : waits_at w.locks n s.asked ≡ true → Asks
   asks e = by_cmd s.cmd refl me.command where
@@ -201,7 +202,8 @@ module _ (w : Plain) (good : Good w) (n : ℕ) (s : NodeState) (at : node_at w.n
           fits = k.fits;
           on = first;
           space = sym (ap space_of k.is);
-          new = subst (λ (o : Option ℕ). IsNewLock x cat k.before.locks o k.name k.mode) (sym number) (i.lawful.needs n k.before base own cat (need.Lock k.name k.mode) k.fits first k.next);
+          new = subst (λ (o : Option ℕ). IsNewLock x w.geometry base own cat k.before.locks o k.name k.mode) (sym number)
+              (subst (λ (g : Geometry). IsNewLock x g base own cat k.before.locks k.before.number k.name k.mode) (sym (ap (λ (y : Seen). y.geometry) k.is) ∙ me.geometry) (i.lawful.needs n k.before base own cat (need.Lock k.name k.mode) k.fits first k.next));
         }
 
     by_plan : (x : Cmd) → s.cmd ≡ Some x → IsAt w n s x → (o : Option Plan) → s.plan ≡ o → IsAtPlan x (waits_at w.locks n s.asked) s.seen s.done s.tried o → Asks

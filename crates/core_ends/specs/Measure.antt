@@ -76,11 +76,11 @@ steps_of s = length s.asked + (length s.seen.blocks + (rule_steps s.seen.geometr
 
 -- Above all events of a command: a WRITE has the most writes, up to one zero fewer than a file has blocks, the block, and the header.
 abbrev pub command_steps : ℕ
-command_steps = 16 * file_most + 816
+command_steps = 16 * file_most + 768
 
 -- so many answers are left, of lines and of closes behind them, and the leaving
 abbrev pub answers_left : ℕ → ℕ → ℕ
-answers_left lines answered = command_steps * (lines - answered) + (128 * (8 - (answered - lines)) + 1)
+answers_left lines answered = command_steps * (lines - answered) + (192 * (8 - (answered - lines)) + 1)
 
 abbrev pub rest_of : Script → ℕ → NodeState → ℕ
 rest_of script n s = answers_left (length (lines_of n script.lines)) s.past.answered

@@ -27,7 +27,7 @@ pub record IsWithin (turns : ℕ) (w : Plain) (from : ℕ) : Type 0 where
 abbrev pub IsEnough : ℕ → Plain → ℕ → Type 0
 IsEnough turns w from = AllOver w ⊎ IsWithin turns w from
 
--- of a world, 2,048 turns for each of its nodes, for each line and each node
+-- of a world, for each of its nodes, for each line and each node as many turns as are above the events of a command
 abbrev pub turns_of : Plain → ℕ
 turns_of w = (command_steps * (length w.script.lines + length w.nodes)) * length w.nodes
 

@@ -7,8 +7,8 @@ pub fn somebody_moves()
     ensures { SomebodyMoves }
 {}
 
-/// Each turn of a node that does not only wait leaves less to be done: of the answers that are left, 2,048 for each line and 128 for each
-/// close behind them, less the events of the command under way.
+/// Each turn of a node that does not only wait leaves less to be done: of the answers that are left, for each line as many events as are above
+/// those of a command, and 192 for each close behind them, less the events of the command under way.
 pub fn turns_leave_less()
     ensures { TurnsLeaveLess }
 {}
@@ -18,12 +18,12 @@ pub fn steps_leave_less()
     ensures { StepsLeaveLess }
 {}
 
-/// There is never more to be done than 2,048 for each line and each node.
+/// There is never more to be done than for each line and each node as many events as are above those of a command.
 pub fn little_is_left()
     ensures { LittleIsLeft }
 {}
 
-/// In rotation, 2,048 turns for each node, for each line and each node, are enough for every node to be over.
+/// In rotation, so many turns for each node, for each line and each node, are enough for every node to be over.
 pub fn turns_are_enough()
     ensures { TurnsAreEnough }
 {}

@@ -17,7 +17,7 @@ use Rattle.vol_spell.specs.Places.{place_of}
 use Rattle.op_law.specs.declared.need.PlanWrite.{PlanWrite}
 use Rattle.core_space.specs.Searching.{Found, More, Short, Enough, cluster_places, free_number, free_in, free_from, number_write, taken_in, cluster_write, cluster_writes, found_clusters, found_number}
 use Rattle.core_space.specs.declared.outcome.Search.{Search}
-use Rattle.core_space.specs.Answering.{answered, answer, blocks_of}
+use Rattle.core_space.specs.Answering.{answered, answer, blocks_alone}
 use Rattle.core_space.proofs.Ways.{more_of}
 use Rattle.core_space.proofs.Chosen.{LiesIn, has_free, has_taken_in, free_number_clear}
 
@@ -120,11 +120,11 @@ finds_short g clusters number first bs taken writes t lt all =
     by_tests (nat_le clusters (length (free_from g 0 bs))) (nat_lt (length bs) (storage_blocks (total_of g))) (first ++ cluster_writes g clusters number [] 0 bs) false false (is_few clusters (free_from g 0 bs) taken t.taken_is lt) left
 
 pub collected_of : (g : Geometry) (clusters : ℕ) (number : Option ℕ) (first : List PlanWrite) (looked : List (ℕ × Block)) (taken : List ℕ) (writes : List PlanWrite) (n : ℕ) → IsGeometry g → n ≡ min (length looked) 16
-    → taken ≡ take clusters (free_from g 0 (blocks_of (take n looked))) → writes ≡ first ++ cluster_writes g clusters number [] 0 (blocks_of (take n looked)) → Collected g clusters number first (blocks_of looked) taken writes
+    → taken ≡ take clusters (free_from g 0 (blocks_alone (take n looked))) → writes ≡ first ++ cluster_writes g clusters number [] 0 (blocks_alone (take n looked)) → Collected g clusters number first (blocks_alone looked) taken writes
 collected_of g clusters number first looked taken writes n is e t w =
     let count = length-map looked (λ (x : ℕ × Block). x.1) in
-    let same : blocks_of (take n looked) ≡ take n (blocks_of looked) = sym (take-map (λ (x : ℕ × Block). x.1) n looked) in
-    collected g clusters number first (blocks_of looked) taken writes n is (e ∙ ap (λ k. min k 16) (sym count))
+    let same : blocks_alone (take n looked) ≡ take n (blocks_alone looked) = sym (take-map (λ (x : ℕ × Block). x.1) n looked) in
+    collected g clusters number first (blocks_alone looked) taken writes n is (e ∙ ap (λ k. min k 16) (sym count))
     (t ∙ ap (λ (bs : List Block). take clusters (free_from g 0 bs)) same) (w ∙ ap (λ (bs : List Block). first ++ cluster_writes g clusters number [] 0 bs) same)
 
 -- ---- the next block
@@ -147,17 +147,17 @@ next_answer g clusters number first bs n e =
     (λ more. ap (λ k. g.bitmap_lbn + 1 + k) e ∙ sym (next_place g clusters number first bs more))
 
 -- the answer without a number
-pub answer_without : (g : Geometry) (clusters : ℕ) (looked : List (ℕ × Block)) (ws : List PlanWrite) (s : Search) → ws ≡ [] → s ≡ answered (g.bitmap_lbn + 1 + length looked) (found_clusters g clusters None ws (blocks_of looked))
-    → s ≡ answer g clusters false (blocks_of looked)
+pub answer_without : (g : Geometry) (clusters : ℕ) (looked : List (ℕ × Block)) (ws : List PlanWrite) (s : Search) → ws ≡ [] → s ≡ answered (g.bitmap_lbn + 1 + length looked) (found_clusters g clusters None ws (blocks_alone looked))
+    → s ≡ answer g clusters false (blocks_alone looked)
 answer_without g clusters looked ws s e h =
     let count = length-map looked (λ (x : ℕ × Block). x.1) in
-    h ∙ ap (λ (vs : List PlanWrite). answered (g.bitmap_lbn + 1 + length looked) (found_clusters g clusters None vs (blocks_of looked))) e
-    ∙ next_answer g clusters None [] (blocks_of looked) (length looked) (sym count)
+    h ∙ ap (λ (vs : List PlanWrite). answered (g.bitmap_lbn + 1 + length looked) (found_clusters g clusters None vs (blocks_alone looked))) e
+    ∙ next_answer g clusters None [] (blocks_alone looked) (length looked) (sym count)
 
 answer_behind : (g : Geometry) (clusters n : ℕ) (x : ℕ × Block) (looked : List (ℕ × Block)) (ws : List PlanWrite) (s : Search) → Some n ≡ free_number g x.1 → ws ≡ number_write g n x.1 ∷ []
-    → s ≡ answered (g.bitmap_lbn + 1 + length looked) (found_clusters g clusters (Some n) ws (blocks_of looked)) → s ≡ answer g clusters true (blocks_of (x ∷ looked))
+    → s ≡ answered (g.bitmap_lbn + 1 + length looked) (found_clusters g clusters (Some n) ws (blocks_alone looked)) → s ≡ answer g clusters true (blocks_alone (x ∷ looked))
 answer_behind g clusters n x looked ws s is e h =
-    let bs = blocks_of looked in
+    let bs = blocks_alone looked in
     let count = length-map looked (λ (y : ℕ × Block). y.1) in
     h ∙ ap (λ (vs : List PlanWrite). answered (g.bitmap_lbn + 1 + length looked) (found_clusters g clusters (Some n) vs bs)) e
     ∙ next_answer g clusters (Some n) (number_write g n x.1 ∷ []) bs (length looked) (sym count)
@@ -165,13 +165,13 @@ answer_behind g clusters n x looked ws s is e h =
 
 -- the answer with a number
 pub answer_with : (g : Geometry) (clusters n : ℕ) (looked : List (ℕ × Block)) (ws : List PlanWrite) (s : Search) → 1 ≤ length looked → Some n ≡ free_number g (get_or looked 0 (0, [])).1 → ws ≡ number_write g n (get_or looked 0 (0, [])).1 ∷ []
-    → s ≡ answered (g.bitmap_lbn + 1 + length (take (length looked - 1) (drop 1 looked))) (found_clusters g clusters (Some n) ws (blocks_of (take (length looked - 1) (drop 1 looked)))) → s ≡ answer g clusters true (blocks_of looked)
+    → s ≡ answered (g.bitmap_lbn + 1 + length (take (length looked - 1) (drop 1 looked))) (found_clusters g clusters (Some n) ws (blocks_alone (take (length looked - 1) (drop 1 looked)))) → s ≡ answer g clusters true (blocks_alone looked)
 answer_with g clusters n [] ws s some is e h = absurd (omega arith)
 answer_with g clusters n (x ∷ looked) ws s some is e h =
     let all : suc (length looked) - 1 ≡ length looked = omega arith in
     let rest : take (suc (length looked) - 1) looked ≡ looked = ap (λ k. take k looked) all ∙ take-length looked in
     answer_behind g clusters n x looked ws s is e
-    (h ∙ ap (λ (xs : List (ℕ × Block)). answered (g.bitmap_lbn + 1 + length xs) (found_clusters g clusters (Some n) ws (blocks_of xs))) rest)
+    (h ∙ ap (λ (xs : List (ℕ × Block)). answered (g.bitmap_lbn + 1 + length xs) (found_clusters g clusters (Some n) ws (blocks_alone xs))) rest)
 
 -- a number that was found is one of the volume
 pub found_number_is : (g : Geometry) (b : Block) (n : ℕ) → Some n ≡ free_number g b → (1 ≤ n) × (n ≤ g.files)

@@ -25,14 +25,14 @@ use Rattle.core_space.proofs.Setting.{are_numbers_given, are_given}
 use Rattle.vol_spell.proofs.Handing.{whole}
 
 pub numbers_go_back : NumbersGoBack
-numbers_go_back g cs [] looked n took base own c some s outs at = absurd (omega arith)
-numbers_go_back g cs (m ∷ ns) looked n took base own c some s outs at =
+numbers_go_back g cs [] looked n took base own c some s blank outs at = absurd (omega arith)
+numbers_go_back g cs (m ∷ ns) looked n took base own c some s blank outs at =
     let old : Block = block_seen looked (place_of g IndexBitmap) in
     let fit = s.counts.geometry.files_to in
     let all = whole (places_of (m ∷ ns)) in
     gives_numbers g n took (things_of cs (m ∷ ns)) (place_of g IndexBitmap) (places_of (m ∷ ns)) [] old (numbers_back g (m ∷ ns) looked).block base own c s outs
     (part_there g base own c s IndexBitmap tt) at all tt (are_numbers_given g old m ns fit)
-    (stock_blank g base own c n took (things_of cs (m ∷ ns)) (places_of (m ∷ ns)) [] s outs all)
+    (stock_blank g base own c n took (things_of cs (m ∷ ns)) (places_of (m ∷ ns)) [] s blank outs all)
 
 pub covered_is : (k q : ℕ) → is_covered k q ≡ true → q / 4096 ≡ k
 covered_is k q e = grind (arith, nat_tests)

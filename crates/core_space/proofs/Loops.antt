@@ -17,7 +17,7 @@ use Rattle.op_law.specs.declared.need.PlanWrite.{PlanWrite}
 use Rattle.op_law.specs.Freeing.{with_free}
 use Rattle.core_space.specs.declared.outcome.Search.TheVariants as search
 use Rattle.core_space.specs.Searching.{More, Short, Enough, places, free_in, free_from, cluster_writes, found_clusters}
-use Rattle.core_space.specs.Answering.{answered, answer, blocks_of}
+use Rattle.core_space.specs.Answering.{answered, answer, blocks_alone}
 use Rattle.core_space.proofs.Concluding.{at_most_16, free_first}
 use Rattle.core_space.proofs.Ranges.{filter_passed, filter_failed, find_here, find_on}
 use Rattle.core_space.proofs.Taken.{take_none, take_parts}
@@ -78,13 +78,13 @@ frees_more g bs k b lt at =
     sym (length-append (free_from g 0 (take k bs)) (free_in g k b)) ∙ sym (ap (λ (xs : List ℕ). length xs) more) ∙ sym (ap (λ (xs : List Block). length (free_from g 0 xs)) next)
 
 -- the first 16 blocks say all
-pub first_say_all : (g : Geometry) (looked : List (ℕ × Block)) (n : ℕ) → IsGeometry g → n ≡ min (length looked) 16 → length (free_from g 0 (blocks_of (take n looked))) ≡ length (free_from g 0 (blocks_of looked))
+pub first_say_all : (g : Geometry) (looked : List (ℕ × Block)) (n : ℕ) → IsGeometry g → n ≡ min (length looked) 16 → length (free_from g 0 (blocks_alone (take n looked))) ≡ length (free_from g 0 (blocks_alone looked))
 first_say_all g looked n is e =
     let count = length-map looked (λ (x : ℕ × Block). x.1) in
     let most = at_most_16 g is in
-    let behind : n < length (blocks_of looked) → storage_blocks (total_of g) ≤ 0 + n = (λ lt. omega (arith, count)) in
-    let same : blocks_of (take n looked) ≡ take n (blocks_of looked) = sym (take-map (λ (x : ℕ × Block). x.1) n looked) in
-    ap (λ (bs : List Block). length (free_from g 0 bs)) same ∙ ap (λ (xs : List ℕ). length xs) (free_first g 0 n (blocks_of looked) behind)
+    let behind : n < length (blocks_alone looked) → storage_blocks (total_of g) ≤ 0 + n = (λ lt. omega (arith, count)) in
+    let same : blocks_alone (take n looked) ≡ take n (blocks_alone looked) = sym (take-map (λ (x : ℕ × Block). x.1) n looked) in
+    ap (λ (bs : List Block). length (free_from g 0 bs)) same ∙ ap (λ (xs : List ℕ). length xs) (free_first g 0 n (blocks_alone looked) behind)
 
 -- ---- the lowest numbers
 

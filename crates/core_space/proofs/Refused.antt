@@ -24,7 +24,7 @@ use Rattle.op_law.specs.declared.need.PlanWrite.{PlanWrite}
 use Rattle.core_space.specs.declared.outcome.Search.{Search}
 use Rattle.core_space.specs.declared.outcome.Search.TheVariants as search
 use Rattle.core_space.specs.Searching.{Found, More, Short, Enough, places, storage_places, cluster_places, free_number, free_from, number_write, found_number, found}
-use Rattle.core_space.specs.Answering.{answered, answer, blocks_of}
+use Rattle.core_space.specs.Answering.{answered, answer, blocks_alone}
 use Rattle.core_space.proofs.Chosen.{found_passes}
 use Rattle.core_space.proofs.Ending.{looks_in_order}
 use Rattle.core_space.proofs.Ways.{short_of, is_below}
@@ -95,17 +95,17 @@ in_pw (Some PW) h = refl
 in_pw (Some EX) h = absurd (let f : true ≡ false = h in cc)
 
 last_refuses : (s : SpaceState) (need : SpaceNeed) (r : Refusal) (a b : Bool) → not (is_exclusive s.locks.x) ≡ a → not (is_writer s.locks.v) ≡ b → s.run.phase ≡ Last
-    → cond a (event.Ask X EX) (cond b (event.Ask V PW) (after_writes (next_put s.run) (by_search (answer s.geometry need.clusters need.number (blocks_of s.run.looked))))) ≡ event.Short r → IsRefusedLast s need r
+    → cond a (event.Ask X EX) (cond b (event.Ask V PW) (after_writes (next_put s.run) (by_search (answer s.geometry need.clusters need.number (blocks_alone s.run.looked))))) ≡ event.Short r → IsRefusedLast s need r
 last_refuses s need r true b x v last h = absurd (let f : event.Ask X EX ≡ event.Short r = h in cc)
 last_refuses s need r false true x v last h = absurd (let f : event.Ask V PW ≡ event.Short r = h in cc)
 last_refuses s need r false false x v last h =
-    let t = short_behind (slice_get s.run.writes s.run.made) (by_search (answer s.geometry need.clusters need.number (blocks_of s.run.looked))) r h in
+    let t = short_behind (slice_get s.run.writes s.run.made) (by_search (answer s.geometry need.clusters need.number (blocks_alone s.run.looked))) r h in
     record {
       last = last;
       alone = in_ex s.locks.x x;
       writer = in_pw s.locks.v v;
       made = t.0;
-      short = short_found _ (found s.geometry need.clusters need.number (blocks_of s.run.looked)) r t.1;
+      short = short_found _ (found s.geometry need.clusters need.number (blocks_alone s.run.looked)) r t.1;
     }
 
 by_phase : (p : Phase) (s : SpaceState) (need : SpaceNeed) (r : Refusal) → s.run.phase ≡ p → event_in p s need ≡ event.Short r → IsRefusedLast s need r
@@ -131,7 +131,7 @@ no_short_fill g looked stock None r h = no_short_gives Drain g looked stock (giv
 no_short_fills : (g : Geometry) (looked : List (ℕ × Block)) (stock : Stock) (need : SpaceNeed) (o : Option ℕ) (r : Refusal) → (fill_by g looked stock need o).short ≡ Some r → ⊥
 no_short_fills g looked stock need (Some l) r h = absurd (let f : None ≡ Some r = h in cc)
 no_short_fills g looked stock need None r h =
-    no_short_fill g looked stock (filled g need.clusters (length stock.clusters) (lacks_number need.number stock.numbers) (blocks_of looked)) r h
+    no_short_fill g looked stock (filled g need.clusters (length stock.clusters) (lacks_number need.number stock.numbers) (blocks_alone looked)) r h
 
 decided_short : (l : ℕ) (f : Found) (r : Refusal) → (search_by (answered l f)).short ≡ Some r → f ≡ Short r
 decided_short l More r h = absurd (let f : None ≡ Some r = h in cc)
@@ -139,12 +139,12 @@ decided_short l (Short x) r h = ap Short (let f : Some x ≡ Some r = h in cc)
 decided_short l (Enough ws) r h = absurd (let f : None ≡ Some r = h in cc)
 
 decided_by : (p : Phase) (g : Geometry) (run : SpaceRun) (stock : Stock) (need : SpaceNeed) (r : Refusal) → run.phase ≡ p → (decision_in p g run.looked stock need).short ≡ Some r
-    → (run.phase ≡ Last) × (found g need.clusters need.number (blocks_of run.looked) ≡ Short r)
+    → (run.phase ≡ Last) × (found g need.clusters need.number (blocks_alone run.looked) ≡ Short r)
 decided_by Off g run stock need r e h = absurd (let f : None ≡ Some r = h in cc)
 decided_by Fill g run stock need r e h =
-    absurd (no_short_fills g run.looked stock need (fill_place g (clusters_to_take need.clusters (length stock.clusters)) (lacks_number need.number stock.numbers) (blocks_of run.looked)) r h)
+    absurd (no_short_fills g run.looked stock need (fill_place g (clusters_to_take need.clusters (length stock.clusters)) (lacks_number need.number stock.numbers) (blocks_alone run.looked)) r h)
 decided_by Drain g run stock need r e h = absurd (no_short_gives Drain g run.looked stock (give_place g stock.clusters stock.numbers run.looked) r h)
-decided_by Last g run stock need r e h = (e, decided_short _ (found g need.clusters need.number (blocks_of run.looked)) r h)
+decided_by Last g run stock need r e h = (e, decided_short _ (found g need.clusters need.number (blocks_alone run.looked)) r h)
 decided_by Back g run stock need r e h = absurd (no_short_gives Back g run.looked stock (give_place g stock.clusters stock.numbers run.looked) r h)
 
 pub decided_last : DecidedLast
@@ -224,7 +224,7 @@ fill_event_looks s need l true b h = absurd (let f : event.Ask X CR ≡ event.Lo
 fill_event_looks s need l false true h = absurd (let f : event.Ask V PW ≡ event.Look l = h in cc)
 fill_event_looks s need l false false h =
     let t = look_behind (slice_get s.run.writes s.run.made) (after_looks (next_fill s need) event.LowerV) l h in
-    fill_looked s.geometry (clusters_to_take need.clusters (length s.stock.clusters)) (lacks_number need.number s.stock.numbers) (blocks_of s.run.looked) l
+    fill_looked s.geometry (clusters_to_take need.clusters (length s.stock.clusters)) (lacks_number need.number s.stock.numbers) (blocks_alone s.run.looked) l
     (look_is (next_fill s need) event.LowerV l (λ e. absurd (cc)) t)
 
 off_looks : (s : SpaceState) (need : SpaceNeed) (l : ℕ) (a : Bool) → cond a event.Enough (fill_event s need) ≡ event.Look l → Has (places s.geometry 1 true) l
@@ -240,11 +240,11 @@ back_looks : (s : SpaceState) (l : ℕ) (b : Bool) → cond b (event.Ask V PW) (
 back_looks s l true h = absurd (let f : event.Ask V PW ≡ event.Look l = h in cc)
 back_looks s l false h = give_event_looks s event.Return l (λ e. absurd (cc)) h
 
-last_looks : (s : SpaceState) (need : SpaceNeed) (l : ℕ) (a b : Bool) → cond a (event.Ask X EX) (cond b (event.Ask V PW) (after_writes (next_put s.run) (by_search (answer s.geometry need.clusters need.number (blocks_of s.run.looked))))) ≡ event.Look l → Has (places s.geometry 1 true) l
+last_looks : (s : SpaceState) (need : SpaceNeed) (l : ℕ) (a b : Bool) → cond a (event.Ask X EX) (cond b (event.Ask V PW) (after_writes (next_put s.run) (by_search (answer s.geometry need.clusters need.number (blocks_alone s.run.looked))))) ≡ event.Look l → Has (places s.geometry 1 true) l
 last_looks s need l true b h = absurd (let f : event.Ask X EX ≡ event.Look l = h in cc)
 last_looks s need l false true h = absurd (let f : event.Ask V PW ≡ event.Look l = h in cc)
 last_looks s need l false false h =
-    let bs = blocks_of s.run.looked in
+    let bs = blocks_alone s.run.looked in
     let t = look_behind (slice_get s.run.writes s.run.made) (by_search (answer s.geometry need.clusters need.number bs)) l h in
     let at = looks_in_order s.geometry need.clusters need.number bs l (search_look (answer s.geometry need.clusters need.number bs) l t) in
     searched s.geometry need.clusters need.number l (has_at (places s.geometry need.clusters need.number) (length bs) l at)

@@ -1,24 +1,22 @@
 -- A search that was refused was refused for its reason.
 use Rattle.std.proofs.Common.{◌≡◌, ◌≤◌, ◌<◌, ◌+◌, ◌-◌, ◌*◌, ◌/◌, ◌%◌, ◌++◌, ◌&&◌, ℕ, zero, suc, Bool, true, false, List, [], ◌∷◌, Option, Some, None, length, slice_get, refl, sym, ap, subst, ◌∙◌, inl, inr, arith, cond, nat_lt, length-append}
-use Rattle.std.specs.Prelude.{min, not, find, filter}
+use Rattle.std.specs.Prelude.{min, not, find, filter, count_by}
 use Rattle.std.specs.List.{range_with_len, zip}
 use Rattle.std.proofs.lemmas.Bool.Decides.{nat_tests}
 use Rattle.std.proofs.lemmas.List.Elements.{filter-append}
-use Rattle.std.proofs.lemmas.List.Sums.{length-filter}
+use Rattle.std.proofs.lemmas.List.Sums.{length-filter, sum_by-cons}
 use Rattle.std.proofs.lemmas.Option.{get_or_from_slice_get}
 use Rattle.base_words.specs.Fields.{Block}
 use Rattle.fx_bitmap.specs.Bits.{bit_at}
 use Rattle.plain_cat.specs.declared.reply.Refusal.{Refusal}
 use Rattle.plain_cat.specs.declared.reply.Refusal.TheVariants.{IndexFull, DeviceFull}
 use Rattle.plain_cat.specs.declared.cat.Cat.{Cat}
-use Rattle.plain_rules.specs.Lookups.{free_clusters, is_free_number, has_free_number}
-use Rattle.plain_rules.proofs.Picks.{no_number as none_to_take}
+use Rattle.plain_rules.specs.Lookups.{free_clusters, has_free_number}
 use Rattle.base_words.specs.Lists.{Has, StandsIn}
 use Rattle.vol_spell.specs.Owners.{Owners}
-use Rattle.vol_spell.proofs.Placing.{ranged_has}
 use Rattle.vol_parts.specs.declared.geometry.Geometry.{Geometry}
 use Rattle.vol_parts.specs.Parts.{storage_blocks}
-use Rattle.vol_spell.specs.Reading.{total_of, cluster_bit}
+use Rattle.vol_spell.specs.Reading.{total_of, cluster_bit, number_bit}
 use Rattle.vol_spell.specs.Spelling.{Spells}
 use Rattle.vol_under.specs.Shortage.{IsFreeByBits}
 use Rattle.vol_under.proofs.Short.{free_by_bits}
@@ -92,18 +90,20 @@ few_clusters g (suc more) bs base c free few all stood =
 
 -- ---- numbers
 
-no_number : (g : Geometry) (index : Block) (base : List Block) (own : Owners) (c : Cat) → free_number g index ≡ None → Spells g base own c → IsFreeByBits g base c → slice_get base (4 * g.cluster) ≡ Some index → has_free_number c ≡ false
+-- a test that fails everywhere counts none
+none_counted : (p : ℕ → Bool) (xs : List ℕ) → ((x : ℕ) → Has xs x → p x ≡ false) → count_by p xs ≡ 0
+none_counted p [] none = refl
+none_counted p (x ∷ xs) none =
+    let sum = sum_by-cons (λ k. cond (p k) 1 0) x xs in
+    let here : cond {A = ℕ} (p x) 1 0 ≡ 0 = ap (λ (b : Bool). cond {A = ℕ} b 1 0) (none x (inl refl)) in
+    let rest = none_counted p xs (λ y t. none y (inr t)) in
+    omega (arith, sum, here, rest)
+
+no_number : (g : Geometry) (index : Block) (base : List Block) (c : Cat) → free_number g index ≡ None → IsFreeByBits g base c → slice_get base (4 * g.cluster) ≡ Some index → has_free_number c ≡ false
 unfolding free_number
-no_number g index base own c e s free at = none_to_take c (λ k lt. by_test (k + 1) (is_free_number c (k + 1)) refl) where
-  by_test : (n : ℕ) (b : Bool) → is_free_number c n ≡ b → is_free_number c n ≡ false
-  by_test n false f = f
-  by_test n true f =
-      let p = (free.numbers n).0 f in
-      let lo = p.0.from in
-      let hi = p.0.to in
-      let fails = not_found (λ m. not (bit_at index (m - 1))) (range_with_len 1 g.files) n e (ranged_has 1 g.files n lo (omega arith)) in
-      let clear : bit_at index (n - 1) ≡ false = sym (number_bit_seen g base index n at) ∙ p.1 in
-      absurd (let h : true ≡ false = sym (ap not clear) ∙ fails in cc)
+no_number g index base c e free at =
+    ap (nat_lt 0) (free.numbers ∙ none_counted (λ n. not (number_bit g base n)) (range_with_len 1 g.files) (λ n t.
+    ap not (number_bit_seen g base index n at) ∙ not_found (λ m. not (bit_at index (m - 1))) (range_with_len 1 g.files) n e t))
 
 -- ---- the refusals
 
@@ -111,7 +111,7 @@ by_number : (g : Geometry) (clusters : ℕ) (index : Block) (n : Option ℕ) (bs
     → Spells g base own c → IsFreeByBits g base c → StandsIn base (looked g clusters true (index ∷ bs)) → IsTooLittle clusters true c r
 by_number g clusters index None bs r base own c is e s free stood =
     let same : IndexFull ≡ r = (let f : Short IndexFull ≡ Short r = e in cc) in
-    subst (λ (x : Refusal). IsTooLittle clusters true c x) same (refl, no_number g index base own c is s free stood.0)
+    subst (λ (x : Refusal). IsTooLittle clusters true c x) same (refl, no_number g index base c is free stood.0)
 by_number g clusters index (Some n) bs r base own c is e s free stood =
     let t = short_of g clusters (Some n) (number_write g n index ∷ []) bs r e in
     subst (λ (x : Refusal). IsTooLittle clusters true c x) (sym t.2) ((λ y. number_there g index n base own c is s stood.0), few_clusters g clusters bs base c free t.0 t.1 stood.1)

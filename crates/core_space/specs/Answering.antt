@@ -1,6 +1,7 @@
 -- The answer of a search.
-use Rattle.std.specs.Prelude.{◌≡◌, ℕ, Bool, List, Some, length, map, slice_get, slice_index_or}
+use Rattle.std.specs.Prelude.{◌≡◌, ℕ, Bool, List, Some, length, slice_get, slice_index_or}
 use Rattle.base_words.specs.Fields.{Block}
+pub use Rattle.base_words.specs.Fields.{blocks_alone}
 use Rattle.vol_parts.specs.declared.geometry.Geometry.{Geometry}
 use Rattle.core_space.specs.declared.outcome.Search.{Search}
 use Rattle.core_space.specs.declared.outcome.Search.TheVariants as search
@@ -15,10 +16,6 @@ answered next (Enough ws) = search.Take ws
 -- by the blocks that were looked at so far
 abbrev pub answer : Geometry → ℕ → Bool → List Block → Search
 answer g clusters number bs = answered (slice_index_or (places g clusters number) (length bs) 0) (found g clusters number bs)
-
--- the blocks that were looked at, without their LBNs
-abbrev pub blocks_of : List (ℕ × Block) → List Block
-blocks_of looked = map (λ l. l.1) looked
 
 -- The block that is looked at next is the first of those that the search may look at that it has not looked at.
 abbrev pub LooksInOrder : Type 0

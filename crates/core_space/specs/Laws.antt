@@ -14,13 +14,13 @@ use Rattle.vol_parts.specs.declared.geometry.Geometry.{Geometry}
 use Rattle.vol_parts.specs.declared.geometry.Part.TheVariants.{IndexBitmap, Storage}
 use Rattle.vol_parts.specs.Parts.{IsGeometry}
 use Rattle.vol_spell.specs.Places.{place_of, IsPart}
-use Rattle.vol_spell.specs.Spelling.{Spells}
+use Rattle.vol_spell.specs.Spelling.{AreBlank, Spells}
 use Rattle.vol_under.specs.UnderWay.{together}
 use Rattle.vol_under.specs.Keeping.{Refills, IsBitmap}
 use Rattle.vol_under.specs.Refilling.{AreTaken, AreNumbersTaken}
 use Rattle.op_law.specs.declared.need.PlanWrite.{PlanWrite}
 use Rattle.core_space.specs.Searching.{Short, places, free_from, found}
-use Rattle.core_space.specs.Answering.{blocks_of}
+use Rattle.core_space.specs.Answering.{blocks_alone}
 use Rattle.core_space.specs.Taking.{looked}
 use Rattle.core_space.specs.declared.run.Phase.TheVariants.{Last}
 use Rattle.core_space.specs.declared.run.SpaceRun.{SpaceRun}
@@ -121,9 +121,10 @@ TakesLowest = (g : Geometry) (need held : ℕ) (lacks : Bool) (bs : List Block) 
 
 -- ---- the writes of a give-back
 
--- Where the block of the index-file bitmap stands that was looked at, the write of a give-back makes all numbers of the stock free.
+-- Where the block of the index-file bitmap stands that was looked at, and the slots of all numbers outside are free, the write of a
+-- give-back makes all numbers of the stock free.
 abbrev pub NumbersGoBack : Type 0
-NumbersGoBack = (g : Geometry) (cs ns : List ℕ) (looked : List (ℕ × Block)) (n : ℕ) (took : Things) (base : List Block) (own : Owners) (c : Cat) → 0 < length ns → Spells g base own c → Outs n own took (things_of cs ns)
+NumbersGoBack = (g : Geometry) (cs ns : List ℕ) (looked : List (ℕ × Block)) (n : ℕ) (took : Things) (base : List Block) (own : Owners) (c : Cat) → 0 < length ns → Spells g base own c → AreBlank g base own → Outs n own took (things_of cs ns)
     → slice_get base (place_of g IndexBitmap) ≡ Some (block_seen looked (place_of g IndexBitmap))
     → Refills g n took (things_of cs []) (numbers_back g ns looked).lbn (numbers_back g ns looked).block base own c
 
@@ -142,7 +143,7 @@ pub record IsRefusedLast (s : SpaceState) (need : SpaceNeed) (r : Refusal) : Typ
   pub alone : s.locks.x ≡ Some EX
   pub writer : s.locks.v ≡ Some PW
   pub made : slice_get s.run.writes s.run.made ≡ None
-  pub short : found s.geometry need.clusters need.number (blocks_of s.run.looked) ≡ Short r
+  pub short : found s.geometry need.clusters need.number (blocks_alone s.run.looked) ≡ Short r
 
 abbrev pub RefusedLast : Type 0
 RefusedLast = (s : SpaceState) (need : SpaceNeed) (r : Refusal) → space_event s need ≡ event.Short r → IsRefusedLast s need r
@@ -150,7 +151,7 @@ RefusedLast = (s : SpaceState) (need : SpaceNeed) (r : Refusal) → space_event 
 -- so it is where it is decided
 abbrev pub DecidedLast : Type 0
 DecidedLast = (g : Geometry) (run : SpaceRun) (stock : Stock) (need : SpaceNeed) (r : Refusal) → (space_decision g run stock need).short ≡ Some r
-    → (run.phase ≡ Last) × (found g need.clusters need.number (blocks_of run.looked) ≡ Short r)
+    → (run.phase ≡ Last) × (found g need.clusters need.number (blocks_alone run.looked) ≡ Short r)
 
 -- A device is full only after all blocks of the bitmaps were looked at that the search may look at.
 abbrev pub FullIsWhole : Type 0

@@ -14,7 +14,7 @@ use Rattle.vol_parts.specs.declared.geometry.Geometry.{Geometry}
 use Rattle.op_law.specs.declared.need.PlanWrite.{PlanWrite}
 use Rattle.core_space.specs.declared.outcome.Search.{Search}
 use Rattle.core_space.specs.declared.outcome.Search.TheVariants as search
-use Rattle.core_space.specs.Answering.{answer, blocks_of}
+use Rattle.core_space.specs.Answering.{answer, blocks_alone}
 use Rattle.core_space.specs.declared.run.Phase.{Phase}
 use Rattle.core_space.specs.declared.run.Phase.TheVariants.{Off, Fill, Drain, Last, Back}
 use Rattle.core_space.specs.declared.run.SpaceRun.{SpaceRun}
@@ -79,7 +79,7 @@ written_first run e = after_writes (next_put run) e
 
 -- where the stock is filled for a need, the next block to be looked at
 abbrev pub next_fill : SpaceState → SpaceNeed → Option ℕ
-next_fill s need = fill_place s.geometry (clusters_to_take need.clusters (length s.stock.clusters)) (lacks_number need.number s.stock.numbers) (blocks_of s.run.looked)
+next_fill s need = fill_place s.geometry (clusters_to_take need.clusters (length s.stock.clusters)) (lacks_number need.number s.stock.numbers) (blocks_alone s.run.looked)
 
 -- where it is given back
 abbrev pub next_give : SpaceState → Option ℕ
@@ -107,7 +107,7 @@ abbrev pub last_event : SpaceState → SpaceNeed → SpaceEvent
 last_event s need =
     if not (is_exclusive s.locks.x) then event.Ask X EX
     else if not (is_writer s.locks.v) then event.Ask V PW
-    else written_first s.run (by_search (answer s.geometry need.clusters need.number (blocks_of s.run.looked)))
+    else written_first s.run (by_search (answer s.geometry need.clusters need.number (blocks_alone s.run.looked)))
 
 -- the stock goes back for good
 abbrev pub back_event : SpaceState → SpaceEvent
@@ -173,11 +173,11 @@ fill_or_give g looked stock None = gives Drain g looked stock
 abbrev pub fill_by : Geometry → List (ℕ × Block) → Stock → SpaceNeed → Option ℕ → Decision
 fill_by g looked stock need (Some lbn) = looks_on Fill
 fill_by g looked stock need None =
-    fill_or_give g looked stock (filled g need.clusters (length stock.clusters) (lacks_number need.number stock.numbers) (blocks_of looked))
+    fill_or_give g looked stock (filled g need.clusters (length stock.clusters) (lacks_number need.number stock.numbers) (blocks_alone looked))
 
 abbrev pub fills : Geometry → List (ℕ × Block) → Stock → SpaceNeed → Decision
 fills g looked stock need =
-    fill_by g looked stock need (fill_place g (clusters_to_take need.clusters (length stock.clusters)) (lacks_number need.number stock.numbers) (blocks_of looked))
+    fill_by g looked stock need (fill_place g (clusters_to_take need.clusters (length stock.clusters)) (lacks_number need.number stock.numbers) (blocks_alone looked))
 
 -- the search of all free space
 abbrev pub search_by : Search → Decision
@@ -189,7 +189,7 @@ abbrev pub decision_in : Phase → Geometry → List (ℕ × Block) → Stock �
 decision_in Off g looked stock need = looks_on Off
 decision_in Fill g looked stock need = fills g looked stock need
 decision_in Drain g looked stock need = gives Drain g looked stock
-decision_in Last g looked stock need = search_by (answer g need.clusters need.number (blocks_of looked))
+decision_in Last g looked stock need = search_by (answer g need.clusters need.number (blocks_alone looked))
 decision_in Back g looked stock need = gives Back g looked stock
 
 -- what the blocks looked at come to, the last one included

@@ -7,7 +7,7 @@ ghost use Rattle.vol_parts.specs.Parts.{IsGeometry, storage_blocks};
 ghost use Rattle.vol_spell.specs.Reading.{total_of};
 ghost use Rattle.op_law.specs.Freeing.{with_free, without_numbers};
 ghost use Rattle.core_space.specs.Searching.{free_in, free_from};
-ghost use Rattle.core_space.specs.Answering.{blocks_of};
+ghost use Rattle.core_space.specs.Answering.{blocks_alone};
 ghost use Rattle.core_space.specs.Filling.{lowest_numbers, with_used};
 ghost use Rattle.core_space.specs.Giving.{is_seen, block_seen, has_covered};
 
@@ -56,7 +56,7 @@ fn count_in(geometry: &Geometry, k: u32, block: &Block) -> u32
 // How many are free by these blocks, of which the first is block 0. The volume has at most 16.
 pub(crate) fn count_free(geometry: &Geometry, storage: &[(u32, Block)]) -> u32
     requires { IsGeometry geometry.now }
-    ensures count { result ≡ length (free_from geometry.now 0 (blocks_of storage.now)) }
+    ensures count { result ≡ length (free_from geometry.now 0 (blocks_alone storage.now)) }
     ensures most { result ≤ 65536 }
 {
     let last = storage.len().min(16);
@@ -66,7 +66,7 @@ pub(crate) fn count_free(geometry: &Geometry, storage: &[(u32, Block)]) -> u32
 fn count_first(geometry: &Geometry, storage: &[(u32, Block)]) -> u32
     requires geometry { IsGeometry geometry.now }
     requires few { length storage.now ≤ 16 }
-    ensures count { result ≡ length (free_from geometry.now 0 (blocks_of storage.now)) }
+    ensures count { result ≡ length (free_from geometry.now 0 (blocks_alone storage.now)) }
     ensures most { result ≤ 65536 }
 {
     let mut count = 0;

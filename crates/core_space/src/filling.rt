@@ -5,7 +5,7 @@ ghost use Rattle.std.specs.List.{All};
 ghost use Rattle.vol_parts.specs.Parts.{IsGeometry};
 ghost use Rattle.op_law.specs.Writing.{with_numbers};
 ghost use Rattle.core_space.specs.Searching.{free_from};
-ghost use Rattle.core_space.specs.Answering.{blocks_of};
+ghost use Rattle.core_space.specs.Answering.{blocks_alone};
 ghost use Rattle.core_space.specs.Filling.{clusters_to_take, lacks_number, storage_part, storage_place, fill_place, numbers_taken, numbers_write, index_writes, storage_writes, filled};
 
 use crate::bits::{count_free, lowest_numbers, storage_blocks, with_used};
@@ -39,7 +39,7 @@ pub(crate) fn lacks_number(needed: bool, stock: &Extents) -> bool
 
 // Of the blocks looked at, those of the storage bitmap.
 fn storage_part(lacks: bool, looked: &[(u32, Block)]) -> &[(u32, Block)]
-    ensures { blocks_of result.now ≡ storage_part lacks (blocks_of looked.now) }
+    ensures { blocks_alone result.now ≡ storage_part lacks (blocks_alone looked.now) }
 {
     match looked {
         [_, storage @ ..] if lacks => storage,
@@ -50,7 +50,7 @@ fn storage_part(lacks: bool, looked: &[(u32, Block)]) -> &[(u32, Block)]
 // The next block of the storage bitmap, where in these too few are free and there is one more.
 fn storage_place(geometry: &Geometry, wanted: u32, storage: &[(u32, Block)]) -> Option<u32>
     requires { IsGeometry geometry.now }
-    ensures { result ≡ storage_place geometry.now wanted (blocks_of storage.now) }
+    ensures { result ≡ storage_place geometry.now wanted (blocks_alone storage.now) }
 {
     if count_free(geometry, storage) < wanted && storage.len() < storage_blocks(geometry) as usize {
         return Some(geometry.bitmap_lbn + 1 + storage.len() as u32);
@@ -66,7 +66,7 @@ pub(crate) fn fill_place(
     looked: &[(u32, Block)],
 ) -> Option<u32>
     requires { IsGeometry geometry.now }
-    ensures { result ≡ fill_place geometry.now wanted lacks (blocks_of looked.now) }
+    ensures { result ≡ fill_place geometry.now wanted lacks (blocks_alone looked.now) }
 {
     if !lacks {
         return storage_place(geometry, wanted, looked);
@@ -85,7 +85,7 @@ fn numbers_taken(
     looked: &[(u32, Block)],
 ) -> Result<Numbers, NoMemory>
     requires { IsGeometry geometry.now }
-    ensures numbers { IfOk result (λ ns. ns ≡ numbers_taken geometry.now lacks (blocks_of looked.now)) }
+    ensures numbers { IfOk result (λ ns. ns ≡ numbers_taken geometry.now lacks (blocks_alone looked.now)) }
     ensures within { IfOk result (λ ns. All (λ n. (1 ≤ n) × (n ≤ 4096)) ns) }
 {
     match looked {
@@ -136,9 +136,9 @@ fn index_writes(
     numbers: &[u32],
 ) -> Result<Writes, NoMemory>
     requires geometry { IsGeometry geometry.now }
-    requires numbers { numbers.now ≡ numbers_taken geometry.now lacks (blocks_of looked.now) }
+    requires numbers { numbers.now ≡ numbers_taken geometry.now lacks (blocks_alone looked.now) }
     requires within { All (λ n. (1 ≤ n) × (n ≤ 4096)) numbers.now }
-    ensures { IfOk result (λ ws. ws ≡ index_writes geometry.now lacks (blocks_of looked.now)) }
+    ensures { IfOk result (λ ws. ws ≡ index_writes geometry.now lacks (blocks_alone looked.now)) }
 {
     let mut writes = Writes::new(alloc);
     if let [(_, index), ..] = looked {
@@ -189,8 +189,8 @@ fn add_clusters(
     writes: &mut Writes,
 ) -> Result<(), NoMemory>
     requires geometry { IsGeometry geometry.now }
-    requires there { count ≤ length (free_from geometry.now 0 (blocks_of storage.now)) }
-    ensures { OnOk result (writes.new ≡ writes.old ++ storage_writes geometry.now count numbers.now (blocks_of storage.now)) }
+    requires there { count ≤ length (free_from geometry.now 0 (blocks_alone storage.now)) }
+    ensures { OnOk result (writes.new ≡ writes.old ++ storage_writes geometry.now count numbers.now (blocks_alone storage.now)) }
 {
     match search(alloc, geometry, count, false, storage)? {
         Search::Take(list) => put_behind(alloc, list.items(), numbers, writes),
@@ -215,7 +215,7 @@ pub(crate) fn fill(
 ) -> Result<Option<Writes>, NoMemory>
     requires geometry { IsGeometry geometry.now }
     requires need { need.clusters ≤ 65536 }
-    ensures { IfOk result (λ o. o ≡ filled geometry.now need.clusters (length stock.now.clusters) (lacks_number need.number stock.now.numbers) (blocks_of looked.now)) }
+    ensures { IfOk result (λ o. o ≡ filled geometry.now need.clusters (length stock.now.clusters) (lacks_number need.number stock.now.numbers) (blocks_alone looked.now)) }
 {
     let held = stock.count();
     let lacks = lacks_number(need.number, stock);

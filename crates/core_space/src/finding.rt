@@ -4,7 +4,7 @@ ghost use Rattle.vol_parts.specs.declared.geometry.Part.TheVariants.{Storage};
 ghost use Rattle.vol_spell.specs.Reading.{total_of};
 ghost use Rattle.vol_spell.specs.Places.{place_of};
 ghost use Rattle.core_space.specs.Searching.{found_clusters};
-ghost use Rattle.core_space.specs.Answering.{answered, answer, blocks_of};
+ghost use Rattle.core_space.specs.Answering.{answered, answer, blocks_alone};
 
 use crate::outcome::Search;
 use crate::taking::{free_number, number_write, take_clusters};
@@ -24,7 +24,7 @@ pub fn search(
     looked: &[(u32, Block)],
 ) -> Result<Search, NoMemory>
     requires { IsGeometry geometry.now }
-    ensures { IfOk result (λ s. s ≡ answer geometry.now clusters number (blocks_of looked.now)) }
+    ensures { IfOk result (λ s. s ≡ answer geometry.now clusters number (blocks_alone looked.now)) }
 {
     let mut writes = Writes::new(alloc);
     if !number {
@@ -50,7 +50,7 @@ fn search_storage(
     mut writes: Writes,
 ) -> Result<Search, NoMemory>
     requires { IsGeometry geometry.now }
-    ensures { IfOk result (λ s. s ≡ answered (place_of geometry.now (Storage (length looked.now))) (found_clusters geometry.now clusters number writes (blocks_of looked.now))) }
+    ensures { IfOk result (λ s. s ≡ answered (place_of geometry.now (Storage (length looked.now))) (found_clusters geometry.now clusters number writes (blocks_alone looked.now))) }
 {
     let count = looked.len().min(16);
     let taken = take_clusters(

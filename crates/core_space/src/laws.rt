@@ -32,7 +32,7 @@ pub fn takes_lowest()
     ensures { TakesLowest }
 {}
 
-/// A give-back makes all file numbers of the stock free with one write.
+/// A give-back makes all file numbers of the stock free with one write, if the header slots of all numbers outside are free.
 pub fn numbers_go_back()
     ensures { NumbersGoBack }
 {}

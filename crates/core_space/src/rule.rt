@@ -4,7 +4,7 @@ ghost use Rattle.std.specs.Prelude.{◌≡◌, ◌≤◌, IfOk, OnErr, None, sli
 ghost use Rattle.extent_cache.specs.Stock.{Stock};
 ghost use Rattle.extent_cache.specs.Takings.{holds_enough};
 ghost use Rattle.vol_parts.specs.Parts.{IsGeometry};
-ghost use Rattle.core_space.specs.Answering.{answer, blocks_of};
+ghost use Rattle.core_space.specs.Answering.{answer, blocks_alone};
 ghost use Rattle.core_space.specs.Giving.{give_place};
 ghost use Rattle.core_space.specs.Rule.{is_shared, has_any, TakesMemory, next_put, written_first, after_looks, by_search, fill_event, last_event, back_event, space_event, is_due, looks_on, gives, fills, search_by, space_decision};
 
@@ -136,7 +136,7 @@ fn search_event(
     need: SpaceNeed,
 ) -> Result<SpaceEvent, NoMemory>
     requires { IsGeometry geometry.now }
-    ensures { IfOk result (λ e. e ≡ by_search (answer geometry.now need.clusters need.number (blocks_of run.now.looked))) }
+    ensures { IfOk result (λ e. e ≡ by_search (answer geometry.now need.clusters need.number (blocks_alone run.now.looked))) }
 {
     let found = search(
         alloc,
@@ -290,7 +290,7 @@ fn searches(
     need: SpaceNeed,
 ) -> Result<Decision, NoMemory>
     requires { IsGeometry geometry.now }
-    ensures { IfOk result (λ d. d ≡ search_by (answer geometry.now need.clusters need.number (blocks_of run.now.looked))) }
+    ensures { IfOk result (λ d. d ≡ search_by (answer geometry.now need.clusters need.number (blocks_alone run.now.looked))) }
 {
     let found = search(
         alloc,

@@ -9,7 +9,7 @@ ghost use Rattle.vol_parts.specs.Parts.{IsGeometry};
 ghost use Rattle.vol_spell.specs.Places.{place_of};
 ghost use Rattle.op_law.specs.Writing.{holding, write_at};
 ghost use Rattle.core_space.specs.Searching.{free_number, free_from, number_write, with_taken, taken_in, cluster_writes};
-ghost use Rattle.core_space.specs.Answering.{blocks_of};
+ghost use Rattle.core_space.specs.Answering.{blocks_alone};
 
 use base_words::Block;
 use fx_bitmap::{bit, clear_bits, set_bits};
@@ -63,8 +63,8 @@ pub(crate) fn take_clusters(
 ) -> Result<Clusters, NoMemory>
     requires geometry { IsGeometry geometry.now }
     requires count { length storage.now ≤ 16 }
-    ensures taken { IfOk result (λ taken. taken ≡ take wanted (free_from geometry.now 0 (blocks_of storage.now))) }
-    ensures writes { IfOk result (λ taken. writes.new ≡ writes.old ++ cluster_writes geometry.now wanted number [] 0 (blocks_of storage.now)) }
+    ensures taken { IfOk result (λ taken. taken ≡ take wanted (free_from geometry.now 0 (blocks_alone storage.now))) }
+    ensures writes { IfOk result (λ taken. writes.new ≡ writes.old ++ cluster_writes geometry.now wanted number [] 0 (blocks_alone storage.now)) }
 {
     let mut taken = Clusters::new(alloc);
     for (k, (_, block)) in storage.iter().enumerate() {

@@ -45,7 +45,7 @@ use Rattle.node_locks.proofs.Keeping.{rows_go_on}
 use Rattle.vol_spell.specs.Owners.{Owners, Things, nothing, Outs}
 use Rattle.base_words.proofs.ListWrites.{stands_joined}
 use Rattle.vol_parts.specs.declared.geometry.Geometry.{Geometry}
-use Rattle.vol_spell.specs.Spelling.{Spells}
+use Rattle.vol_spell.specs.Spelling.{AreBlank, Spells}
 use Rattle.vol_under.specs.UnderWay.{PlannedWrite, bare, UnderWay, writes_to, outs_after, outs_at, together, resting, idle, changed}
 use Rattle.vol_under.specs.Guards.{guard_of}
 use Rattle.vol_under.specs.Under.{IsUnder}
@@ -101,6 +101,7 @@ use Rattle.core_state.proofs.KeptReplies.{kept_then, store_then}
 use Rattle.core_state.proofs.CachedReplies.{writes_then, cached_then}
 use Rattle.node_locks.proofs.Nodes.{rows_here as own_rows}
 use Rattle.core_state.proofs.Backing.{none_in_stock}
+use Rattle.core_state.proofs.Blanks.{plan_outside, writes_blank}
 use Rattle.core_state.proofs.Taking.{AnswersBy, its_outs, its_seen, changed_twice, widens, answers_by}
 use Rattle.core_state.proofs.SmallTables.{IsSequence, is_first, is_second, both_little}
 use Rattle.core_state.proofs.SmallWorlds.{small_answered}
@@ -329,7 +330,7 @@ module _ (w : Plain) (good : Good w) (n : ℕ) (s : NodeState) (at : node_at w.n
   idle_now : idle me ≡ resting kept_stock
   idle_now = λ i. resting (together (left i) (stock_is i))
 
-  answered : AnswersBy w.geometry cat base (nodes_under w.locks w.nodes) w.blocks n me x r
+  answered : AnswersBy w.geometry cat base own (nodes_under w.locks w.nodes) w.blocks n me x r
   answered =
       answers_by w.geometry cat (nodes_under w.locks w.nodes) w.blocks n me here_now good.running.drive (are_sole w.locks w.nodes good.locked.0 good.locked.1) know
       (law_grows w.geometry n (under_way x s.seen ws know) (held_in PR (held_by w.locks n s)) (held_in PW (held_by w.locks n s)) left_seen s.done stock (writes_more w good n s at x cmd free) right.lawful)
@@ -351,18 +352,32 @@ module _ (w : Plain) (good : Good w) (n : ℕ) (s : NodeState) (at : node_at w.n
   under_idle : IsUnderOn w.geometry cat_then committed new (changed (nodes_under w.locks w.nodes) n (resting kept_stock)) w.blocks
   under_idle = subst (λ (v : UnderWay). IsUnderOn w.geometry cat_then committed new (changed (nodes_under w.locks w.nodes) n v) w.blocks) idle_now answered.under
 
+  -- all writes are done
+  all_done : take s.done (map planned ws) ≡ map planned ws
+  all_done = ap (λ (k : ℕ). take k (map planned ws)) whole ∙ taken_whole (map planned ws)
+
+  stands : StandsIn base s.seen.blocks
+  stands = ((stands_joined base left_seen s.seen.blocks).0 (its_seen w.geometry cat (nodes_under w.locks w.nodes) w.blocks n me here_now good.running.drive)).1
+
+  outs : Outs n own (things s.seen.clusters s.seen.number) stock
+  outs = its_outs w.geometry cat (nodes_under w.locks w.nodes) w.blocks n me here_now good.running.drive
+
+  out_then : Outs n new nothing kept_stock
+  out_then = subst (λ (v : UnderWay). Outs n new v.took v.stock) (changed_here (nodes_under w.locks w.nodes) n (resting kept_stock)) (under_idle.outs n)
+
   -- a block that may be cached stays so, or its directory was freed
   guarded : (name : LockName) (l : ℕ) → IsGuarded w.geometry own cat name l → IsGuarded w.geometry new cat_then name l ⊎ IsFreedBy w.geometry ws name
   guarded name l = guarded_or_freed w.geometry base own new cat cat_then n (held_in PW s.seen.locks) ws name l good.running.drive.spelt spelt_then
       (right.named base own cat stock good.running.drive.spelt known stands outs) (right.dirs base own cat stock good.running.drive.spelt known stands outs) where
         spelt_then : Spells w.geometry (written (bare (map planned ws)) base) new cat_then
-        spelt_then = subst (λ (vs : List PlannedWrite). Spells w.geometry (written (bare vs) base) new cat_then) (ap (λ (k : ℕ). take k (map planned ws)) whole ∙ taken_whole (map planned ws)) under_idle.spelt
+        spelt_then = subst (λ (vs : List PlannedWrite). Spells w.geometry (written (bare vs) base) new cat_then) all_done under_idle.spelt
 
-        stands : StandsIn base s.seen.blocks
-        stands = ((stands_joined base left_seen s.seen.blocks).0 (its_seen w.geometry cat (nodes_under w.locks w.nodes) w.blocks n me here_now good.running.drive)).1
-
-        outs : Outs n own (things s.seen.clusters s.seen.number) stock
-        outs = its_outs w.geometry cat (nodes_under w.locks w.nodes) w.blocks n me here_now good.running.drive
+  -- the slots of numbers outside are free then
+  blank_then : AreBlank w.geometry committed new
+  blank_then = subst (λ (vs : List PlannedWrite). AreBlank w.geometry (written (bare vs) base) new) (sym all_done)
+      (writes_blank w.geometry base own new cat (things s.seen.clusters s.seen.number) ws good.running.drive.spelt (right.slots base own cat stock good.running.drive.spelt known stands outs)
+      (plan_outside n me.write own new (things s.seen.clusters s.seen.number) stock outs answered.moves kept_stock out_then (ap (λ (t : Things). t.numbers) (sym stock_is)))
+      good.running.blank)
 
   all_mine : HoldsItsLocks w.locks n (rows_of s)
   all_mine = subst (λ (rs : List Row). HoldsItsLocks w.locks n rs) (ap rows_in at) (good.locked.1 n)
@@ -518,6 +533,7 @@ module _ (w : Plain) (good : Good w) (n : ℕ) (s : NodeState) (at : node_at w.n
         replayed = replays_grow w.opening w.script w.history good.running.cat entry cat_then good.running.replayed answered.answer;
         base = committed;
         own = new;
+        blank = blank_then;
         cached = cached_then w good n s at free granted x r (w.history ++ entry ∷ []) all_made let_off.table held_then rests_then others_go cat_then new ws in_hold guarded;
         drive = under_grown w.geometry cat_then committed new w.locks after w.nodes n s rested w.blocks at
             (λ m q k ne e h. rows_go_on w.locks after m (rows_of q) k (others_go m q ne e) h) under_then;

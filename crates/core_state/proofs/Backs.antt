@@ -10,7 +10,7 @@ use Rattle.lock_db.specs.declared.name.LockName.TheVariants.{V}
 use Rattle.vol_parts.specs.declared.geometry.Part.TheVariants.{IndexBitmap, Storage}
 use Rattle.vol_spell.specs.Reading.{total_of}
 use Rattle.vol_spell.specs.Places.{place_of}
-use Rattle.vol_spell.specs.Spelling.{Spells}
+use Rattle.vol_spell.specs.Spelling.{AreBlank, Spells}
 use Rattle.vol_spell.proofs.Parts.{are_parts}
 use Rattle.vol_under.specs.Keeping.{Refills, IsBitmap}
 use Rattle.op_law.specs.declared.need.PlanWrite.{PlanWrite}
@@ -41,7 +41,7 @@ pub record IsBackWrite (g : Geometry) (n : ℕ) (took : Things) (cat : Cat) (sto
   pub old : Block
   pub among : Has run.looked (w.lbn, old)
   pub bitmap : IsBitmap g w.lbn
-  pub refill : (base : List Block) (own : Owners) → Spells g base own cat → Outs n own took (things_in stock) → slice_get base w.lbn ≡ Some old → Refills g n took (things_in (left_by g w.lbn stock)) w.lbn w.block base own cat
+  pub refill : (base : List Block) (own : Owners) → Spells g base own cat → AreBlank g base own → Outs n own took (things_in stock) → slice_get base w.lbn ≡ Some old → Refills g n took (things_in (left_by g w.lbn stock)) w.lbn w.block base own cat
   pub goes : IsGoingBack g (left_by g w.lbn stock) after
 
 module _ (g : Geometry) (n : ℕ) (took : Things) (cat : Cat) (stock : Stock) (run after : SpaceRun) (w : PlanWrite) (base : List Block) (own : Owners) (spelt : Spells g base own cat) (outs : Outs n own took (things_in stock))
@@ -74,11 +74,11 @@ module _ (g : Geometry) (n : ℕ) (took : Things) (cat : Cat) (stock : Stock) (r
         old = block_seen run.looked (place_of g IndexBitmap);
         among = subst (λ (l : ℕ). Has run.looked (l, block_seen run.looked (place_of g IndexBitmap))) (sym place) (seen_has run.looked (place_of g IndexBitmap) (seen.index h.some));
         bitmap = subst (IsBitmap g) (sym place) (inl (parts.there IndexBitmap tt));
-        refill = λ b o s out at.
+        refill = λ b o s blank out at.
             let left = numbers_leave g b o cat stock w s (λ q i. outside_within g n took stock.clusters stock.numbers b o cat q s out i) place in
             subst (λ (k : Stock). Refills g n took (things_in k) w.lbn w.block b o cat) (sym left)
             (subst (λ (v : PlanWrite). Refills g n took (things_of stock.clusters []) v.lbn v.block b o cat) (sym h.is)
-            (numbers_go_back g stock.clusters stock.numbers run.looked n took b o cat h.some s out (ap (slice_get b) (sym place) ∙ at)));
+            (numbers_go_back g stock.clusters stock.numbers run.looked n took b o cat h.some s blank out (ap (slice_get b) (sym place) ∙ at)));
         goes = goes_on (record { clusters = stock.clusters; numbers = [] }) (numbers_leave g base own cat stock w spelt inside place) h.rest (no_numbers_seen g stock.clusters run.looked seen.clusters);
       }
 
@@ -92,7 +92,7 @@ module _ (g : Geometry) (n : ℕ) (took : Things) (cat : Cat) (stock : Stock) (r
         old = block_seen run.looked (place_of g (Storage k));
         among = subst (λ (l : ℕ). Has run.looked (l, block_seen run.looked (place_of g (Storage k)))) (sym place) (seen_has run.looked (place_of g (Storage k)) (covered_seen g stock.clusters stock.numbers run.looked k seen h.inside h.covered));
         bitmap = subst (IsBitmap g) (sym place) (inr (k, parts.there (Storage k) h.inside));
-        refill = λ b o s out at.
+        refill = λ b o s blank out at.
             let left = clusters_leave g b o cat stock w k s h.inside place in
             subst (λ (j : Stock). Refills g n took (things_in j) w.lbn w.block b o cat) (sym left)
             (subst (λ (v : PlanWrite). Refills g n took (things_of (without_block k stock.clusters) stock.numbers) v.lbn v.block b o cat) (sym h.is)

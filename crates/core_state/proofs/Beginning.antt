@@ -72,7 +72,7 @@ module _ (w : Plain) (good : Good w) (n : ℕ) (s : NodeState) (at : node_at w.n
   pub alone : (r : NodeState) → rows_of r ≡ rows_of s → AsksAlike (granted_ask s.tried s.plan) (granted_ask r.tried r.plan) → r.opens ≡ s.opens → OwesLess s r → IsStocked r → IsUnderOn w.geometry good.running.cat good.running.drive.base good.running.drive.own (changed (nodes_under w.locks w.nodes) n (under_with w.locks n r r.cmd)) w.blocks
       → hold_writes r ≡ hold_writes s → ((e : Cached) → Has r.cache e → Has s.cache e ⊎ IsCachedAt (with_node w n r) good.running.drive.own good.running.cat n r e) → IsNode (with_node w n r) n r → Good (with_node w n r)
   alone r same alike opens owes stocked drive wrote mine is = rebuilt w good n s r at w.locks w.blocks w.history
-      (still_driven w good n s r at w.locks w.blocks alike opens good.running.drive.base good.running.drive.own (under_now w.geometry good.running.cat good.running.drive.base good.running.drive.own w.locks w.locks w.nodes n s r w.blocks at (λ m q ne e. refl) drive) good.running.opens
+      (still_driven w good n s r at w.locks w.blocks alike opens good.running.drive.base good.running.drive.own good.running.blank (under_now w.geometry good.running.cat good.running.drive.base good.running.drive.own w.locks w.locks w.nodes n s r w.blocks at (λ m q ne e. refl) drive) good.running.opens
       (quiet_cached w sole good.writers n s r at same wrote good.running.drive.own good.running.cat good.running.cached mine))
       (good.locked.0, held_same w.locks w.nodes n s r at same held_at) good.own (small_set w good.small n s r at w.blocks owes) (good.few n) (λ m ne. refl) (λ m q ne e. loses_nothing w.locks m q) stocked (quiet_writes w sole good.writers n s r at same wrote) is
 

@@ -1,6 +1,6 @@
--- The writes of a plan that are done, on the committed blocks: each is under the lock that it names, and they leave the runs of
--- directories.
-use Rattle.std.proofs.Common.{◌≡◌, ◌&&◌, ℕ, zero, suc, Bool, true, false, not, List, [], ◌∷◌, Option, Some, None, map, take, refl, ap, subst}
+-- The writes of a plan that are done, on the committed blocks: each is under the lock that it names, they leave the runs of
+-- directories, and they fill no header slots but those of files and of the number that the command was given.
+use Rattle.std.proofs.Common.{◌≡◌, ◌&&◌, ℕ, zero, suc, Bool, true, false, not, List, [], ◌∷◌, Option, Some, None, map, take, refl, sym, ap, subst}
 use Rattle.base_words.specs.Fields.{Block}
 use Rattle.lock_db.specs.declared.name.LockName.{LockName}
 use Rattle.plain_cat.specs.declared.mode.Mode.TheVariants.{PW}
@@ -9,7 +9,7 @@ use Rattle.plain_cat.specs.declared.reply.Reply.{Reply}
 use Rattle.plain_cat.specs.declared.cat.Cat.{Cat}
 use Rattle.node_locks.specs.Held.{waits_at}
 use Rattle.base_words.specs.Lists.{Has, StandsIn}
-use Rattle.vol_spell.specs.Owners.{Owners, Outs}
+use Rattle.vol_spell.specs.Owners.{Owners, Things, nothing, Outs}
 use Rattle.base_words.proofs.ListWrites.{stands_joined}
 use Rattle.vol_parts.specs.declared.geometry.Geometry.{Geometry}
 use Rattle.vol_parts.specs.declared.geometry.Part.TheVariants.{Header}
@@ -23,7 +23,7 @@ use Rattle.op_law.specs.declared.need.PlanWrite.{PlanWrite}
 use Rattle.op_law.specs.declared.need.Ask.{Ask}
 use Rattle.op_law.specs.Fits.{things}
 use Rattle.op_law.specs.Knows.{knows, is_granted}
-use Rattle.op_law.specs.Laws.{held_in, planned, under_way, IsNamed, AreNamed, KeepsRuns, LeavesDirs, IsRight, IsPlan}
+use Rattle.op_law.specs.Laws.{held_in, planned, under_way, IsNamed, AreNamed, KeepsRuns, LeavesDirs, MayFill, LeavesSlots, IsRight, IsPlan}
 use Rattle.core_state.specs.Worlds.{NodeState, Plain, node_at}
 use Rattle.core_state.specs.Stocks.{stock_now, looked_now}
 use Rattle.core_state.specs.Asks.{writes_by, writes_now}
@@ -39,10 +39,11 @@ take_planned zero ws = refl
 take_planned (suc k) [] = refl
 take_planned (suc k) (w ∷ ws) = ap (λ (ps : List PlannedWrite). planned w ∷ ps) (take_planned k ws)
 
--- a write under the lock that it names, which leaves a directory's runs
-record IsSoundWrite (n : ℕ) (locks : List LockName) (g : Geometry) (base : List Block) (own : Owners) (v : PlanWrite) : Type 0 where
+-- a write under the lock that it names, which leaves a directory's runs, and fills no slot of a number but a file's or one of these
+record IsSoundWrite (n : ℕ) (locks : List LockName) (g : Geometry) (base : List Block) (own : Owners) (took : Things) (v : PlanWrite) : Type 0 where
   named : IsNamed n locks v.lock (guard_of g own v.lbn)
   leaves : (i : ℕ) → part_of g v.lbn ≡ Some (Header i) → KeepsRuns (header_block g base i) v.block
+  fills : (i : ℕ) → part_of g v.lbn ≡ Some (Header i) → MayFill own took i v.block
 
 module _ (w : Plain) (good : Good w) (n : ℕ) (s : NodeState) (at : node_at w.nodes n ≡ Some s) where
   abbrev cat : Cat
@@ -57,8 +58,12 @@ module _ (w : Plain) (good : Good w) (n : ℕ) (s : NodeState) (at : node_at w.n
   me : IsNode w n s
   me = good.nodes n s at
 
+  -- what its command was given
+  abbrev pub given : Things
+  given = things s.seen.clusters s.seen.number
+
   abbrev Sound : PlanWrite → Type 0
-  Sound v = IsSoundWrite n (held_in PW s.seen.locks) s.seen.geometry base own v
+  Sound v = IsSoundWrite n (held_in PW s.seen.locks) s.seen.geometry base own given v
 
   spelt : Spells s.seen.geometry base own cat
   spelt = (drive_so w good n s at).spelt
@@ -78,6 +83,7 @@ module _ (w : Plain) (good : Good w) (n : ℕ) (s : NodeState) (at : node_at w.n
     by_law ws r know right known v h = record {
       named = right.named base own cat (stock_now s.stock s.run) spelt known stands outs v h;
       leaves = right.dirs base own cat (stock_now s.stock s.run) spelt known stands outs v h;
+      fills = right.slots base own cat (stock_now s.stock s.run) spelt known stands outs v h;
     }
 
     by_plan : (o : Option Plan) → s.plan ≡ o → IsAtPlan x (waits_at w.locks n s.asked) s.seen s.done s.tried o → (v : PlanWrite) → Has (writes_now s.tried o) v → Sound v
@@ -114,6 +120,18 @@ module _ (w : Plain) (good : Good w) (n : ℕ) (s : NodeState) (at : node_at w.n
 
   pub made_named : AreNamed n (held_in PW s.seen.locks) w.geometry own writes_made
   made_named v h = subst (λ (g : Geometry). IsNamed n (held_in PW s.seen.locks) v.lock (guard_of g own v.lbn)) me.geometry (sound v h).named
+
+  pub made_fill : LeavesSlots w.geometry own given writes_made
+  made_fill v h = subst (λ (g : Geometry). (i : ℕ) → part_of g v.lbn ≡ Some (Header i) → MayFill own given i v.block) me.geometry (sound v h).fills
+
+  -- what the command was given is outside
+  pub given_out : Outs n own given (stock_now s.stock s.run)
+  given_out = by_cmd s.cmd refl me.command where
+    by_cmd : (o : Option Cmd) → s.cmd ≡ o → HasCommand w n s o → Outs n own given (stock_now s.stock s.run)
+    by_cmd None e idle =
+        let none : nothing ≡ given = λ i. things (sym idle.space.clusters i) (sym idle.space.number i) in
+        subst (λ (t : Things). Outs n own t (stock_now s.stock s.run)) none (subst (λ (o : Option Cmd). Outs n own (under_with w.locks n s o).took (under_with w.locks n s o).stock) e (outs_so w good n s at))
+    by_cmd (Some x) e i = outs x e
 
   pub made_leave : LeavesDirs w.geometry base writes_made
   made_leave v h = subst (λ (g : Geometry). (i : ℕ) → part_of g v.lbn ≡ Some (Header i) → KeepsRuns (header_block g base i) v.block) me.geometry (sound v h).leaves

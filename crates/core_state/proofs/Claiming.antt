@@ -141,7 +141,7 @@ module _ (w : Plain) (good : Good w) (n : ℕ) (s : NodeState) (at : node_at w.n
     pub claim_keeps : (waits_at w.locks n s.asked ≡ true → WaitsAside s.run.phase s.asked s.seen.number → WaitsAside p s.asked s.seen.number) → HasStore p r.kept r.cache → (Has (held_in CR s.kept) X → Has (held_in CR r.kept) X) → OwesLess s r → Spaces s.cmd r.kept r.claims r.run s.stock s.seen
         → Good (altered w t w.blocks (set_node w.nodes n r) w.history)
     claim_keeps asks keeps x_stays owes space = rebuilt w good n s r at t w.blocks w.history
-        (still_driven w good n s r at t w.blocks (λ part o low. refl) refl base own
+        (still_driven w good n s r at t w.blocks (λ part o low. refl) refl base own good.running.blank
         (under_now w.geometry good.running.cat base own w.locks t w.nodes n s r w.blocks at (λ m y ne e. rows_stand_still w.locks t m (rows_of y) (λ ls i. claimed.took.others m ls ne)) under_then)
         (opens_taken name n mode w.locks (open_now good.running.cat w.nodes) good.locked.0 far claimed.took.may not_cw good.running.opens)
         (taken_cached w sole good.writers n s r t takes (are_sole t (set_node w.nodes n r) claimed.took.table held_then) (guarding_of w good) own good.running.cat good.running.cached))

@@ -14,7 +14,7 @@ use Rattle.base_words.proofs.Listing.{has_first, has_second, has_parted}
 use Rattle.op_law.specs.Events.{space_of}
 use Rattle.op_law.specs.Needs.{events_of}
 use Rattle.op_law.specs.Laws.{held_in, takes_lock}
-use Rattle.core_space.specs.Answering.{blocks_of}
+use Rattle.core_space.specs.Answering.{blocks_alone}
 use Rattle.core_space.specs.declared.run.Phase.{Phase}
 use Rattle.core_space.specs.declared.run.Phase.TheVariants as phase
 use Rattle.core_space.specs.declared.run.SpaceRun.{SpaceRun}
@@ -186,7 +186,7 @@ module _ (w : Plain) (good : Good w) (n : ℕ) (s : NodeState) (at : node_at w.n
         in_order = none_in_order s.seen.geometry 1 (lacks_by x s.seen s.stock) s.run.looked (ap (λ (h : SpaceRun). h.looked) begun);
       };
       lacking = lacking;
-      more = ap (λ (h : SpaceRun). is_some (fill_place s.seen.geometry (clusters_to_take (wanted_by x s.seen) (length s.stock.clusters)) (lacks_by x s.seen s.stock) (blocks_of h.looked))) begun
+      more = ap (λ (h : SpaceRun). is_some (fill_place s.seen.geometry (clusters_to_take (wanted_by x s.seen) (length s.stock.clusters)) (lacks_by x s.seen s.stock) (blocks_alone h.looked))) begun
           ∙ fill_first s.seen.geometry (wanted_by x s.seen) (numbered_by x s.seen) s.stock (drive w good n s at x cmd free).spelt.counts.geometry lacking;
       writes = ap (λ (h : SpaceRun). h.writes) begun;
       made = ap (λ (h : SpaceRun). h.made) begun;
@@ -276,7 +276,7 @@ module _ (w : Plain) (good : Good w) (n : ℕ) (s : NodeState) (at : node_at w.n
             in_order = none_in_order s.seen.geometry (wanted_by x s.seen) (numbered_by x s.seen) s.run.looked (ap (λ (h : SpaceRun). h.looked) run);
           };
           needs = needs;
-          more = ap (λ (h : SpaceRun). found s.seen.geometry (wanted_by x s.seen) (numbered_by x s.seen) (blocks_of h.looked)) run
+          more = ap (λ (h : SpaceRun). found s.seen.geometry (wanted_by x s.seen) (numbered_by x s.seen) (blocks_alone h.looked)) run
               ∙ first_more s.seen.geometry (wanted_by x s.seen) (numbered_by x s.seen) (drive w good n s at x cmd free).spelt.counts.geometry
               (wants_some (events_of s.seen.geometry s.seen.channel x) s.seen.locks s.seen.blocks (space_of s.seen) (wanted_by x s.seen) (numbered_by x s.seen) needs.none needs.next);
           writes = ap (λ (h : SpaceRun). h.writes) run;

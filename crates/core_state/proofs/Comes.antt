@@ -15,7 +15,7 @@ use Rattle.op_law.specs.Needs.{events_of}
 use Rattle.extent_cache.specs.Takings.{holds_enough}
 use Rattle.core_space.specs.declared.outcome.Search.TheVariants as search
 use Rattle.core_space.specs.Searching.{places}
-use Rattle.core_space.specs.Answering.{answered, answer, blocks_of}
+use Rattle.core_space.specs.Answering.{answered, answer, blocks_alone}
 use Rattle.core_space.proofs.Taken.{takes_all}
 use Rattle.core_space.specs.declared.event.SpaceEvent.{SpaceEvent}
 use Rattle.core_space.specs.declared.event.SpaceEvent.TheVariants as space
@@ -112,8 +112,8 @@ module _ (w : Plain) (good : Good w) (n : ℕ) (s : NodeState) (at : node_at w.n
   by_fill p k b shared writer e f = λ i. by_rule s p (N k b) (cond (not (e i)) (space.Ask X CR) (cond (not (f i)) (space.Ask V PW) (written_first s.run (after_looks (next_fill (space_state s) (N k b)) space.LowerV))))
 
   by_last : (p : Phase) (k : ℕ) (b alone writer : Bool) → is_exclusive (space_locks s).x ≡ alone → is_writer (space_locks s).v ≡ writer
-      → by_rule s p (N k b) (last_event (space_state s) (N k b)) ≡ by_rule s p (N k b) (cond (not alone) (space.Ask X EX) (cond (not writer) (space.Ask V PW) (written_first s.run (by_search (answer s.seen.geometry k b (blocks_of s.run.looked))))))
-  by_last p k b alone writer e f = λ i. by_rule s p (N k b) (cond (not (e i)) (space.Ask X EX) (cond (not (f i)) (space.Ask V PW) (written_first s.run (by_search (answer s.seen.geometry k b (blocks_of s.run.looked))))))
+      → by_rule s p (N k b) (last_event (space_state s) (N k b)) ≡ by_rule s p (N k b) (cond (not alone) (space.Ask X EX) (cond (not writer) (space.Ask V PW) (written_first s.run (by_search (answer s.seen.geometry k b (blocks_alone s.run.looked))))))
+  by_last p k b alone writer e f = λ i. by_rule s p (N k b) (cond (not (e i)) (space.Ask X EX) (cond (not (f i)) (space.Ask V PW) (written_first s.run (by_search (answer s.seen.geometry k b (blocks_alone s.run.looked))))))
 
   puts : (p : Phase) (k : ℕ) (b : Bool) (e : SpaceEvent) (v : PlanWrite) → slice_get s.run.writes s.run.made ≡ Some v → by_rule s p (N k b) (written_first s.run e) ≡ event.SpaceWrite v
   puts p k b e v next = ap (λ o. by_rule s p (N k b) (after_writes (put_of o) e)) next ∙ ap by_put next
@@ -152,7 +152,7 @@ module _ (w : Plain) (good : Good w) (n : ℕ) (s : NodeState) (at : node_at w.n
     ClaimsLast : s.run ≡ begun_run phase.Last → s.claims ≡ (X, EX) ∷ [] → s.stock ≡ empty_stock → e ≡ event.Claim phase.Last V PW → Moves x e
     FillLook : FillLooks x s.kept s.claims s.run s.stock s.seen → (lbn : ℕ) → next_fill (space_state s) (N (wanted_by x s.seen) (numbered_by x s.seen)) ≡ Some lbn → e ≡ event.SpaceLook (wanted_by x s.seen) (numbered_by x s.seen) lbn → Moves x e
     DrainLook : IsDraining x s.kept s.claims s.run s.stock s.seen → s.run.writes ≡ [] → s.run.made ≡ 0 → (lbn : ℕ) → next_back s.seen.geometry s.stock s.run ≡ Some lbn → e ≡ event.SpaceLook (wanted_by x s.seen) (numbered_by x s.seen) lbn → Moves x e
-    LastLook : IsLooking x s.kept s.claims s.run s.stock s.seen → (lbn : ℕ) → answer s.seen.geometry (wanted_by x s.seen) (numbered_by x s.seen) (blocks_of s.run.looked) ≡ search.Look lbn → e ≡ event.SpaceLook (wanted_by x s.seen) (numbered_by x s.seen) lbn → Moves x e
+    LastLook : IsLooking x s.kept s.claims s.run s.stock s.seen → (lbn : ℕ) → answer s.seen.geometry (wanted_by x s.seen) (numbered_by x s.seen) (blocks_alone s.run.looked) ≡ search.Look lbn → e ≡ event.SpaceLook (wanted_by x s.seen) (numbered_by x s.seen) lbn → Moves x e
     FillWrite : FillWrites x s.kept s.claims s.run s.stock s.seen → (v : PlanWrite) → slice_get s.run.writes s.run.made ≡ Some v → e ≡ event.SpaceWrite v → Moves x e
     DrainWrite : IsDraining x s.kept s.claims s.run s.stock s.seen → IsWritingBack s.seen.geometry s.stock s.run → (v : PlanWrite) → slice_get s.run.writes s.run.made ≡ Some v → e ≡ event.SpaceWrite v → Moves x e
     LastWrite : IsTaking x s.kept s.claims s.run s.stock s.seen → (v : PlanWrite) → slice_get s.run.writes s.run.made ≡ Some v → e ≡ event.SpaceWrite v → Moves x e
@@ -230,7 +230,7 @@ module _ (w : Plain) (good : Good w) (n : ℕ) (s : NodeState) (at : node_at w.n
       by_goes (WritesBack back) = by_next back (slice_get s.run.writes s.run.made) refl
 
     last_start : s.run.phase ≡ phase.Last → (alone writer : Bool) → is_exclusive (space_locks s).x ≡ alone → is_writer (space_locks s).v ≡ writer
-        → by_space s k b ≡ by_rule s phase.Last (N k b) (cond (not alone) (space.Ask X EX) (cond (not writer) (space.Ask V PW) (written_first s.run (by_search (answer s.seen.geometry k b (blocks_of s.run.looked))))))
+        → by_space s k b ≡ by_rule s phase.Last (N k b) (cond (not alone) (space.Ask X EX) (cond (not writer) (space.Ask V PW) (written_first s.run (by_search (answer s.seen.geometry k b (blocks_alone s.run.looked))))))
     last_start e alone writer f h = in_phase phase.Last e ∙ by_last phase.Last k b alone writer f h
 
     by_rules : Rules x s.kept s.claims s.run s.stock s.seen → Moves x (by_space s k b)
@@ -250,23 +250,23 @@ module _ (w : Plain) (good : Good w) (n : ℕ) (s : NodeState) (at : node_at w.n
         FillWrite h v.0 v.1 (under_both h.filling.fill h.filling.shared h.filling.claims ∙ puts phase.Fill k b (after_looks (next_fill (space_state s) (N k b)) space.LowerV) v.0 v.1)
     by_rules (Filled h) =
         Lowers h (under_both h.fill h.shared h.claims ∙ no_puts phase.Fill k b (after_looks (next_fill (space_state s) (N k b)) space.LowerV) (at_end s.run.writes s.run.made (let e = h.all in omega arith))
-        ∙ ap (λ r. by_rule s phase.Fill (N k b) (after_looks r space.LowerV)) (fill_over s.seen.geometry k b s.stock (blocks_of s.run.looked) h.enough))
+        ∙ ap (λ r. by_rule s phase.Fill (N k b) (after_looks r space.LowerV)) (fill_over s.seen.geometry k b s.stock (blocks_alone s.run.looked) h.enough))
     by_rules (Drains h) = going_back h h.goes
     by_rules (Alone h) = elim h.claims [
       | inl c ↦ ClaimsAlone h.run c.0 c.1 h.empty (last_start (phase_so phase.Last h.run) false (is_writer (space_locks s).v) (ap is_exclusive (x_kept NL c.1)) refl)
       | inr c ↦ ClaimsLast h.run c h.empty (last_start (phase_so phase.Last h.run) true false (ap is_exclusive (claimed_mode X EX c)) (v_low (x_alone EX c)))
     ]
     by_rules (Looking h) =
-        let lbn = slice_index_or (places s.seen.geometry k b) (length (blocks_of s.run.looked)) 0 in
-        let look : answer s.seen.geometry k b (blocks_of s.run.looked) ≡ search.Look lbn = ap (answered lbn) h.more in
+        let lbn = slice_index_or (places s.seen.geometry k b) (length (blocks_alone s.run.looked)) 0 in
+        let look : answer s.seen.geometry k b (blocks_alone s.run.looked) ≡ search.Look lbn = ap (answered lbn) h.more in
         LastLook h lbn look (last_start h.claimed_so.last true true (ap is_exclusive (x_kept EX h.claimed_so.alone)) (ap is_writer (claimed_mode V PW h.claimed_so.claims))
-        ∙ no_puts phase.Last k b (by_search (answer s.seen.geometry k b (blocks_of s.run.looked))) (nothing_left h.writes) ∙ ap (λ o. by_rule s phase.Last (N k b) (by_search o)) look)
+        ∙ no_puts phase.Last k b (by_search (answer s.seen.geometry k b (blocks_alone s.run.looked))) (nothing_left h.writes) ∙ ap (λ o. by_rule s phase.Last (N k b) (by_search o)) look)
     by_rules (Taking h) =
         let v = some_there s.run.writes s.run.made h.part in
         LastWrite h v.0 v.1 (last_start h.found.claimed_so.last true true (ap is_exclusive (x_kept EX h.found.claimed_so.alone)) (ap is_writer (claimed_mode V PW h.found.claimed_so.claims))
-        ∙ puts phase.Last k b (by_search (answer s.seen.geometry k b (blocks_of s.run.looked))) v.0 v.1)
+        ∙ puts phase.Last k b (by_search (answer s.seen.geometry k b (blocks_alone s.run.looked))) v.0 v.1)
     by_rules (Taken h) =
-        let all_taken = takes_all s.seen.geometry k b (blocks_of s.run.looked) s.run.writes h.found.enough in
+        let all_taken = takes_all s.seen.geometry k b (blocks_alone s.run.looked) s.run.writes h.found.enough in
         let no_clusters : k ≡ 0 = sym (ap length (sym needs.none.clusters ∙ h.clusters) ∙ all_taken.clusters) in
         let no_number : b ≡ false = sym (ap is_some (sym needs.none.number ∙ h.number) ∙ all_taken.number) in
         let f : true ≡ false = (λ i. has_space (sym no_clusters i) (sym no_number i) no_space) ∙ wanting in

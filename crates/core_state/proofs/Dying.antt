@@ -49,9 +49,10 @@ use Rattle.base_words.specs.Lists.{Has, written}
 use Rattle.vol_spell.specs.Owners.{Owners, Things, nothing, Outs}
 use Rattle.base_words.proofs.Listing.{same_or_not, has_second, filtered}
 use Rattle.vol_spell.specs.Reading.{total_of}
-use Rattle.vol_spell.specs.Spelling.{Spells}
+use Rattle.vol_spell.specs.Spelling.{AreBlank, Spells}
 use Rattle.vol_spell.proofs.Clusters.{once_range}
 use Rattle.vol_under.specs.UnderWay.{PlannedWrite, bare, UnderWay, first_stage, writes_to, stage_after, stage_at, outs_after, together, all_out, resting, changed, AreSole, StandsAt}
+use Rattle.vol_under.proofs.Nodes.{changed_here}
 use Rattle.vol_under.specs.Ending.{AreNumbersOf}
 use Rattle.op_law.specs.declared.need.PlanWrite.{PlanWrite}
 use Rattle.op_law.specs.declared.seen.Chan.{Chan}
@@ -87,7 +88,8 @@ use Rattle.core_state.proofs.Midway.{all_known}
 use Rattle.core_state.proofs.Leaking.{same_files, LeaksOn, Stops, stop_on, stopped_out, may_leak, death_on}
 use Rattle.core_state.proofs.Cached.{written_by}
 use Rattle.core_state.proofs.CachedTruth.{committed_truth}
-use Rattle.core_state.proofs.CachedDone.{take_planned, writes_made, made_named, made_leave}
+use Rattle.core_state.proofs.Blanks.{death_outside, writes_blank}
+use Rattle.core_state.proofs.CachedDone.{take_planned, given, given_out, writes_made, made_named, made_leave, made_fill}
 use Rattle.core_state.proofs.CachedDeaths.{death_writes, death_cached}
 use Rattle.core_state.proofs.Opens.{channel_parts}
 use Rattle.core_state.proofs.Seeking.{neither}
@@ -510,6 +512,14 @@ module _ (w : Plain) (good : Good w) (n : ℕ) (s : NodeState) (at : node_at w.n
         | inr freed ↦ inr freed
       ]
 
+  -- the slots of numbers outside are free then
+  blank_then : AreBlank w.geometry base_then dies.new
+  blank_then = subst (λ (bs : List Block). AreBlank w.geometry bs dies.new) (sym made_is)
+      (writes_blank w.geometry base own dies.new c (given w good n s at) (writes_made w good n s at) good.running.drive.spelt (made_fill w good n s at)
+      (death_outside n (under n).write own law.new (given w good n s at) (stock_now s.stock s.run) (given_out w good n s at) law.moves dies.new dies.moves none_out) good.running.blank) where
+        none_out : Outs n dies.new nothing nothing
+        none_out = subst (λ (u : UnderWay). Outs n dies.new u.took u.stock) (changed_here under n (resting nothing)) (dies.under.outs n)
+
   cached_then : AreCached v dies.new d
   cached_then = death_cached w good n s at history others_go held_then own dies.new c d good.running.cached
       (λ e none t. committed_truth w v own dies.new c d s (writes_made w good n s at) e refl refl
@@ -536,6 +546,7 @@ module _ (w : Plain) (good : Good w) (n : ℕ) (s : NodeState) (at : node_at w.n
         opens = opens_locked;
         opened = all_set w.nodes n s (gone s) at (λ m q. HasOpens d m q.opens) (all_closed d n own_none) other_opens;
         cached = cached_then;
+        blank = blank_then;
       })
       (IsTable-dropped n w.locks good.locked.0, held_then)
       (own_grows w.script w.history entry good.own alive_by)

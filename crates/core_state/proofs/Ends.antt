@@ -1,5 +1,5 @@
 -- How a command on a channel ends: with which ask and with which reply.
-use Rattle.std.proofs.Common.{◌≡◌, ◌⊎◌, ℕ, Bool, true, false, cond, List, [], ◌∷◌, Option, Some, None, refl, sym, ap, subst, ◌∙◌, inl, inr}
+use Rattle.std.proofs.Common.{◌≡◌, ◌⊎◌, ℕ, zero, suc, Bool, true, false, cond, List, [], ◌∷◌, Option, Some, None, refl, sym, ap, subst, ◌∙◌, inl, inr}
 use Rattle.std.specs.Prelude.{option_map, map}
 use Rattle.base_words.specs.Fields.{Block}
 use Rattle.fx_header.specs.declared.slot.Hdr.{Hdr}
@@ -16,6 +16,7 @@ use Rattle.plain_cat.specs.declared.reply.Reply.TheVariants as reply
 use Rattle.plain_cat.specs.declared.reply.Refusal.{Refusal}
 use Rattle.plain_cat.specs.declared.reply.Refusal.TheVariants as refusal
 use Rattle.plain_rules.specs.Answers.{first_refusal, is_kept}
+use Rattle.plain_rules.specs.Lookups.{extra}
 use Rattle.plain_histories.specs.Moves.{switched_by}
 use Rattle.vol_parts.specs.declared.geometry.Geometry.{Geometry}
 use Rattle.vol_parts.specs.declared.geometry.Part.TheVariants.{Storage}
@@ -33,6 +34,7 @@ use Rattle.op_law.specs.Rows.{is_number, live_in, look_all, answers, refuses}
 use Rattle.op_law.specs.Refusing.{SeenFile, seen_file, used_in, if_file, unless_refused}
 use Rattle.op_law.specs.Writing.{asking_plan}
 use Rattle.op_law.specs.Freeing.{blocks_for, all_clusters, through_space, freeing_writes}
+use Rattle.op_law.specs.Headers.{next_number, with_header, through_links, through_chain}
 use Rattle.op_law.specs.Channels.{first_ask, open_in, open_events, close_ask, close_plan, close_in, close_on, close_events}
 use Rattle.op_law.specs.Knows.{channel_of, asking_part, may_ask}
 
@@ -157,6 +159,12 @@ module _ (chan : ℕ) (had : Chan) where
       all_ends (HasShape x (Some had)) Q (quota_places g) _ (λ quota index. all_ends (HasShape x (Some had)) V (map (λ k. place_of g (Storage k)) ks) _ (λ storage.
       by_mode f.num e had.mode refl (freeing_writes g f (record { quota = quota; index = index; storage = storage }))))
 
+  -- the same behind some headers more
+  links_end : (g : Geometry) (k : ℕ) (b : Block) (f : SeenFile) → f.num ≡ had.file.num
+      → Ends (HasShape x (Some had)) (through_links g PW k b f (λ whole. through_space g whole (λ s. Make (close_plan whole.num chan had.mode (freeing_writes g whole s)))))
+  links_end g zero b f e = space_ends g f e
+  links_end g (suc k) b f e = λ y. links_end g k y (with_header g (next_number b) y f) e
+
   close_ends : (g : Geometry) → Ends (HasShape x (Some had)) (close_on g (Some had) chan)
   close_ends g = by_number (is_number g had.file) where
     looking : Block → Events
@@ -168,8 +176,8 @@ module _ (chan : ℕ) (had : Chan) where
       f : SeenFile
       f = seen_file g had.file.num b h
 
-      by_marked : (t : Bool) → Ends (HasShape x (Some had)) (cond t (through_space g f (λ s. Make (close_plan f.num chan had.mode (freeing_writes g f s)))) (answers (reply.Closed false)))
-      by_marked true = space_ends g f refl
+      by_marked : (t : Bool) → Ends (HasShape x (Some had)) (cond t (through_chain g PW f (λ whole. through_space g whole (λ s. Make (close_plan whole.num chan had.mode (freeing_writes g whole s))))) (answers (reply.Closed false)))
+      by_marked true = links_end g (extra f.file.clusters) f.head f refl
       by_marked false = stays
 
     by_number : (t : Bool) → Ends (HasShape x (Some had)) (cond t (Take (S had.file.num) PW (Look (S had.file.num) (header_place g had.file.num) looking)) (refuses refusal.NoSuchFile))

@@ -17,7 +17,7 @@ use Rattle.vol_spell.specs.Owners.{Owners, Things, nothing, Outs}
 use Rattle.base_words.proofs.ListWrites.{touches_joined}
 use Rattle.base_words.proofs.Listing.{has_parted, has_first, has_second}
 use Rattle.vol_parts.specs.declared.geometry.Geometry.{Geometry}
-use Rattle.vol_spell.specs.Spelling.{Spells}
+use Rattle.vol_spell.specs.Spelling.{AreBlank, Spells}
 use Rattle.vol_under.specs.Guards.{Lock, guard_of, MayLook}
 use Rattle.vol_under.proofs.Guarding.{bitmap_guard}
 use Rattle.vol_under.specs.UnderWay.{UnderWay, together, changed}
@@ -28,11 +28,11 @@ use Rattle.op_law.specs.declared.seen.Seen.{Seen}
 use Rattle.op_law.specs.Events.{has_number}
 use Rattle.op_law.specs.Fits.{things, HasSeen}
 use Rattle.op_law.specs.Knows.{clusters_wanted}
-use Rattle.plain_rules.specs.Laws.{makes_file as wants_number}
 use Rattle.op_law.specs.Laws.{held_in, takes_lock, IsCacheable}
 use Rattle.op_law.specs.Writing.{Held, holding}
 use Rattle.core_space.specs.Taking.{looked, out_after, out_of, IsTaking as Takes}
-use Rattle.core_space.specs.Answering.{blocks_of}
+use Rattle.core_space.specs.Searching.{found}
+use Rattle.core_space.specs.Answering.{blocks_alone}
 use Rattle.core_space.proofs.Writes.{writes_take, takings_refill}
 use Rattle.core_space.proofs.Taken.{takes_all}
 use Rattle.core_space.proofs.Apart.{writes_apart}
@@ -64,12 +64,14 @@ use Rattle.core_state.proofs.Seeking.{touches_its, part_stands, stands_its, part
 use Rattle.core_state.proofs.Switching.{AsksAlike}
 use Rattle.core_state.proofs.SmallWorlds.{OwesLess, owes_same, small_set}
 use Rattle.core_state.proofs.Keeping.{altered, still_driven, rebuilt, held_same, loses_nothing}
+use Rattle.core_state.proofs.Wants.{wants_alike}
 use Rattle.core_state.proofs.Standing.{all_taken, part_taken, back_taken, with_nothing}
 use Rattle.core_state.proofs.Turning.{my_sole, under_command, here, drive, outs_now, seen_now, guards_now, is_node, goes, not_yet, plan_stays, asks_now, asks_then, no_wait, no_writes_now, me, more_before, only_before, made_before, stocked_now}
 use Rattle.core_state.proofs.Serving.{no_number}
 use Rattle.core_state.proofs.Fillings.{get_has, fill_once, fill_last, filled_enough, fill_under, few_filled}
 use Rattle.core_state.proofs.InStock.{is_once, in_stock}
 use Rattle.core_state.proofs.Backs.{IsBackWrite, back_write}
+use Rattle.core_state.proofs.Blanks.{bits_blank}
 
 -- ---- small steps
 
@@ -173,7 +175,7 @@ module _ (w : Plain) (good : Good w) (n : ℕ) (s : NodeState) (at : node_at w.n
     ]
 
     written_so : (r : NodeState) → v.lock ≡ V → r.cache ≡ cache_written w s v → hold_writes r ≡ take (t + 1) ws ++ take s.done (writes_now s.tried s.plan) → rows_of r ≡ rows_of s → AsksAlike (granted_ask s.tried s.plan) (granted_ask r.tried r.plan) → r.opens ≡ s.opens → OwesLess s r → IsStocked r → (know : Cat → Bool) (mid took stock : Things)
-        → ((base : List Block) (own : Owners) → Spells g base own cat → Outs n own u.took u.stock → slice_get base v.lbn ≡ Some old → Refills g n u.took mid v.lbn v.block base own cat)
+        → (slice_get under.base v.lbn ≡ Some old → Refills g n u.took mid v.lbn v.block under.base under.own cat)
         → ((own : Owners) → Outs n own u.took mid → Outs n own took stock)
         → record u { seen = rest; knows = know; took = took; stock = stock } ≡ under_with w.locks n r r.cmd → IsNode (altered w w.locks written (set_node w.nodes n r) w.history) n r
         → GoodWith r
@@ -184,6 +186,8 @@ module _ (w : Plain) (good : Good w) (n : ℕ) (s : NodeState) (at : node_at w.n
         (λ k m. guards_now w good n s at x cmd free k (part_touches u.seen rest some_left k m)) there_now refill know took stock goes_to in
         let at_geometry : IsUnderOn w.geometry cat (slice_set good.running.drive.base v.lbn v.block) drive_now.new (changed (nodes_under w.locks w.nodes) n (record u { seen = rest; knows = know; took = took; stock = stock })) written
         = subst (λ (h : Geometry). IsUnderOn h cat (slice_set good.running.drive.base v.lbn v.block) drive_now.new (changed (nodes_under w.locks w.nodes) n (record u { seen = rest; knows = know; took = took; stock = stock })) written) (me w good n s at x cmd free).geometry drive_now.under in
+        let blank : AreBlank w.geometry (slice_set good.running.drive.base v.lbn v.block) drive_now.new
+        = bits_blank w.geometry n good.running.drive.base good.running.drive.own drive_now.new cat v.lbn v.block good.running.drive.spelt (subst (λ (h : Geometry). IsBitmap h v.lbn) (me w good n s at x cmd free).geometry bitmap) drive_now.moves good.running.blank in
         let ys : List PlanWrite = take s.done (writes_now s.tried s.plan) in
         let it : IsWriteOf w n s r good.running.drive.own v = record {
           at = at;
@@ -200,7 +204,7 @@ module _ (w : Plain) (good : Good w) (n : ℕ) (s : NodeState) (at : node_at w.n
         let stays : (name : LockName) (l : ℕ) → guard_of w.geometry good.running.drive.own l ≡ Some (Lock name) → IsCacheable w.geometry good.running.drive.own cat l → (guard_of w.geometry drive_now.new l ≡ Some (Lock name)) × IsCacheable w.geometry drive_now.new cat l
         = λ name l a k. let z = spaces_stay w.geometry n good.running.drive.own drive_now.new cat cat name l drive_now.moves refl (record { guard = a; kind = k }) in (z.guard, z.kind) in
         rebuilt w good n s r at w.locks written w.history
-        (still_driven w good n s r at w.locks written asks opens (slice_set good.running.drive.base v.lbn v.block) drive_now.new
+        (still_driven w good n s r at w.locks written asks opens (slice_set good.running.drive.base v.lbn v.block) drive_now.new blank
         (under_now w.geometry cat (slice_set good.running.drive.base v.lbn v.block) drive_now.new w.locks w.locks w.nodes n s r written at (λ m q ne e. refl)
         (subst (λ (k : UnderWay). IsUnderOn w.geometry cat (slice_set good.running.drive.base v.lbn v.block) drive_now.new (changed (nodes_under w.locks w.nodes) n k) written) there at_geometry))
         good.running.opens
@@ -240,7 +244,7 @@ module _ (w : Plain) (good : Good w) (n : ℕ) (s : NodeState) (at : node_at w.n
     lacks = lacks_by x s.seen s.stock
 
     abbrev bs : List Block
-    bs = blocks_of s.run.looked
+    bs = blocks_alone s.run.looked
 
     filling : Fillings g (looked g 1 lacks bs) (taken_before ws t) v
     filling = writes_fill g (wanted_by x s.seen) (length s.stock.clusters) lacks bs ws t v under.spelt.counts.geometry h.enough next
@@ -274,7 +278,7 @@ module _ (w : Plain) (good : Good w) (n : ℕ) (s : NodeState) (at : node_at w.n
         let there : record u { seen = rest; stock = mid } ≡ under_with w.locks n r s.cmd
         = (λ i. record (at_locks n r x (held_by w.locks n s)) { stock = sym stock_then i }) ∙ ap (under_with w.locks n r) (sym cmd) in
         written_so filling.old among once refilled.0 r filling.lock refl refl refl (λ part o low. refl) refl (owes_same s r refl refl) (stocked_by_x r CR refl h.filling.shared (omega arith) (few_stays s r refl refl refl)) (knows_now n x s.seen s.tried s.plan) mid u.took mid
-        (λ base own spelt outs stands. (refill base own spelt outs stands).1) (λ own o. o) there
+        (λ stands. (refill under.base under.own under.spelt (outs_now w good n s at x cmd free) stands).1) (λ own o. o) there
         (node_so r filling.lock refl refl refl refl refl refl refl refl refl refl refl
         (Grabs (record { filling = record { fill = h.filling.fill; shared = h.filling.shared; claims = h.filling.claims; needs = h.filling.needs; in_order = h.filling.in_order }; enough = h.enough; part = part })))
     filled_so true e =
@@ -286,7 +290,7 @@ module _ (w : Plain) (good : Good w) (n : ℕ) (s : NodeState) (at : node_at w.n
         = (λ i. record (at_locks n r x (held_by w.locks n s)) { stock = sym stock_then i }) ∙ ap (under_with w.locks n r) (sym cmd) in
         let its = is_once n refilled.1.new v s.stock (subst (λ (k : Things). Outs n refilled.1.new k mid) none refilled.1.outs) in
         written_so filling.old among once refilled.0 r filling.lock refl refl refl (λ part o low. refl) refl (owes_same s r refl refl) (stocked_by_x r CR refl h.filling.shared (omega arith) (few_filled s r x cmd g (wanted_by x s.seen) (length s.stock.clusters) bs ws v h.enough (get_has ws t v next) its.numbers refl refl refl h.filling.needs.next)) (knows_now n x s.seen s.tried s.plan) mid u.took left_then
-        (λ base own spelt outs stands. (refill base own spelt outs stands).1)
+        (λ stands. (refill under.base under.own under.spelt (outs_now w good n s at x cmd free) stands).1)
         (λ own o. subst (λ (k : Things). Outs n own k left_then) (sym none) (in_stock n own v s.stock (subst (λ (k : Things). Outs n own k mid) none o))) there
         (node_so r filling.lock refl refl refl refl refl refl refl refl refl refl refl
         (Filled (record {
@@ -308,6 +312,10 @@ module _ (w : Plain) (good : Good w) (n : ℕ) (s : NodeState) (at : node_at w.n
     stock_so : u.stock ≡ things_in s.stock
     stock_so = ap (together (things_in s.stock)) (back_taken s.run.phase ws t (inl h.drain)) ∙ with_nothing (things_in s.stock)
 
+    -- the slots of numbers outside are free
+    blank_now : AreBlank g under.base under.own
+    blank_now = subst (λ (h : Geometry). AreBlank h good.running.drive.base good.running.drive.own) (sym (me w good n s at x cmd free).geometry) good.running.blank
+
     abbrev r : Bool → NodeState
     r last = grabbed phase.Drain last
 
@@ -320,7 +328,7 @@ module _ (w : Plain) (good : Good w) (n : ℕ) (s : NodeState) (at : node_at w.n
         let there : record u { seen = rest; stock = left_then } ≡ under_with w.locks n (r last) s.cmd
         = (λ i. record (at_locks n (r last) x (held_by w.locks n s)) { stock = sym stock_then i }) ∙ ap (under_with w.locks n (r last)) (sym cmd) in
         written_so b.old b.among goes_back.once b.bitmap (r last) b.lock refl refl refl (λ part o low. refl) refl (owes_same s (r last) refl refl) (stocked_by_x (r last) CR refl h.shared (omega arith) (few_left s (r last) g v.lbn refl refl refl)) (knows_now n x s.seen s.tried s.plan) left_then u.took left_then
-        (λ base own spelt outs stands. b.refill base own spelt (subst (λ (k : Things). Outs n own u.took k) stock_so outs) stands) (λ own o. o) there
+        (λ stands. b.refill under.base under.own under.spelt blank_now (subst (λ (k : Things). Outs n under.own u.took k) stock_so (outs_now w good n s at x cmd free)) stands) (λ own o. o) there
         (node_so (r last) b.lock refl refl refl refl refl refl refl refl refl refl refl
         (Drains (record { drain = h.drain; shared = h.shared; claims = h.claims; needs = h.needs; goes = b.goes })))
 
@@ -331,7 +339,7 @@ module _ (w : Plain) (good : Good w) (n : ℕ) (s : NodeState) (at : node_at w.n
 
   module _ (h : IsTaking x s.kept s.claims s.run s.stock s.seen) where
     abbrev seen_bs : List Block
-    seen_bs = blocks_of s.run.looked
+    seen_bs = blocks_alone s.run.looked
 
     abbrev order : List (ℕ × Block)
     order = looked g (wanted_by x s.seen) (numbered_by x s.seen) seen_bs
@@ -363,16 +371,16 @@ module _ (w : Plain) (good : Good w) (n : ℕ) (s : NodeState) (at : node_at w.n
     out_now : out_after ws (t + 1) ≡ holding v.clusters v.number
     out_now = out_next ws t v next
 
-    claimed_on : (run : SpaceRun) (seen : Seen) → run.phase ≡ s.run.phase → run.looked ≡ s.run.looked → seen.geometry ≡ s.seen.geometry → seen.locks ≡ s.seen.locks → HasClaimed x s.kept s.claims run s.stock seen
-    claimed_on run seen ph looks geometry locks =
+    claimed_on : (run : SpaceRun) (seen : Seen) → run.phase ≡ s.run.phase → run.looked ≡ s.run.looked → seen.geometry ≡ s.seen.geometry → seen.locks ≡ s.seen.locks → seen.blocks ≡ s.seen.blocks → HasClaimed x s.kept s.claims run s.stock seen
+    claimed_on run seen ph looks geometry locks blocks =
         let c = h.found.claimed_so in
         record {
           last = ph ∙ c.last;
           alone = c.alone;
           claims = c.claims;
           empty = c.empty;
-          come = record { takes = c.come.takes; before = c.come.before; after = c.come.after; locks = locks ∙ c.come.locks; quota = c.come.quota; behind = λ l k. absurd (no_number s.seen.number h.needs.none.number l.0 (c.come.behind l k)) };
-          in_order = looks ∙ c.in_order ∙ (λ i. looked (sym geometry i) (clusters_wanted (sym geometry i).cluster x) (wants_number x) (blocks_of (sym looks i)));
+          come = record { takes = c.come.takes; before = c.come.before; after = c.come.after; locks = locks ∙ c.come.locks; blocks = subst (λ (bs : List (ℕ × Block)). 0 < length bs) (sym blocks) c.come.blocks; quota = c.come.quota; behind = λ l k. absurd (no_number s.seen.number h.needs.none.number l.0 (c.come.behind l k)) };
+          in_order = looks ∙ c.in_order ∙ (λ i. looked (sym geometry i) (clusters_wanted (sym geometry i).cluster x) (sym (wants_alike x seen s.seen geometry blocks) i) (blocks_alone (sym looks i)));
         }
 
     taken_so : (last : Bool) → (t + 1 == length ws) ≡ last → GoodWith (grabbed phase.Last last)
@@ -383,9 +391,9 @@ module _ (w : Plain) (good : Good w) (n : ℕ) (s : NodeState) (at : node_at w.n
         let there : record u { seen = rest; stock = gets } ≡ under_with w.locks n r s.cmd
         = (λ i. record (at_locks n r x (held_by w.locks n s)) { stock = sym stock_then i }) ∙ ap (under_with w.locks n r) (sym cmd) in
         written_so taking.old among_last once_last bitmap r taking.lock refl refl refl (λ part o low. refl) refl (owes_same s r refl refl) (stocked_by_x r EX refl h.found.claimed_so.alone (omega arith) (few_stays s r refl refl refl)) (knows_now n x s.seen s.tried s.plan) gets u.took gets
-        (λ base own spelt outs stands. (refill_last base own spelt outs stands).1) (λ own o. o) there
+        (λ stands. (refill_last under.base under.own under.spelt (outs_now w good n s at x cmd free) stands).1) (λ own o. o) there
         (node_so r taking.lock refl refl refl refl refl refl refl refl refl refl refl
-        (Taking (record { found = record { claimed_so = claimed_on r.run s.seen refl refl refl refl; enough = h.found.enough; above = h.found.above }; needs = h.needs; part = part; ready = h.ready })))
+        (Taking (record { found = record { claimed_so = claimed_on r.run s.seen refl refl refl refl refl; enough = h.found.enough; above = h.found.above }; needs = h.needs; part = part; ready = h.ready })))
     taken_so true e =
         let r : NodeState = grabbed phase.Last true in
         let all : t + 1 ≡ length ws = all_there (t + 1) (length ws) e in
@@ -397,12 +405,12 @@ module _ (w : Plain) (good : Good w) (n : ℕ) (s : NodeState) (at : node_at w.n
         let count : length v.clusters ≡ wanted_by x s.seen = ap (λ (k : Held). length k.clusters) (sym out_last) ∙ all_so.clusters in
         let numbered : has_number (numbered_by x s.seen) v.number ≡ true = number_there (numbered_by x s.seen) v.number (ap (λ (k : Held). is_some k.number) (sym out_last) ∙ all_so.number) in
         written_so taking.old among_last once_last bitmap r taking.lock refl refl refl (λ part o low. refl) refl (owes_same s r refl refl) (stocked_by_x r EX refl h.found.claimed_so.alone (omega arith) (λ f. few_none r h.found.claimed_so.empty)) (knows_now n x r.seen s.tried s.plan) gets gets nothing
-        (λ base own spelt outs stands. (refill_last base own spelt outs stands).1) (λ own o. out_taken n own gets (subst (λ (k : Things). Outs n own k gets) none o)) there
+        (λ stands. (refill_last under.base under.own under.spelt (outs_now w good n s at x cmd free) stands).1) (λ own o. out_taken n own gets (subst (λ (k : Things). Outs n own k gets) none o)) there
         (is_node w good n s at x cmd free w.locks written r refl refl refl refl (store_so r.run.phase r.kept r.cache taking.lock refl refl refl) (me w good n s at x cmd free).rests
         ((goes w good n s at x cmd free).given s.seen (wanted_by x s.seen) (numbered_by x s.seen) v.clusters v.number now.seen h.needs.next count numbered) now.own (plan_stays w good n s at x cmd free w.locks r no_plan refl refl)
         (asks_then w good n s at x cmd free r no_plan refl (asks_now w good n s at x cmd free no_plan))
         (Busy x refl (Taken (record {
-          found = record { claimed_so = claimed_on r.run r.seen refl refl refl refl; enough = h.found.enough; above = h.found.above };
+          found = record { claimed_so = claimed_on r.run r.seen refl refl refl refl refl; enough = ap (λ b. found g (wanted_by x s.seen) b seen_bs) (wants_alike x r.seen s.seen refl refl) ∙ h.found.enough; above = h.found.above };
           all = all;
           clusters = ap (λ (k : Held). k.clusters) (sym out_last);
           number = ap (λ (k : Held). k.number) (sym out_last);

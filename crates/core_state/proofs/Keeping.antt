@@ -10,6 +10,7 @@ use Rattle.plain_cat.specs.declared.cat.Cat.{Cat}
 use Rattle.plain_rules.specs.Accounts.{Accounted}
 use Rattle.plain_rules.specs.Replaying.{Replays}
 use Rattle.vol_spell.specs.Owners.{Owners}
+use Rattle.vol_spell.specs.Spelling.{AreBlank}
 use Rattle.core_cached.specs.Committed.{IsUnderOn, of_it}
 use Rattle.plain_cat.specs.declared.history.Entry.{Entry}
 use Rattle.plain_rules.specs.Own.{past, command_after, next_command, Own}
@@ -160,7 +161,7 @@ course_stays next t u n d goes (Some x) a = record { next = a.next; form = a.for
   by_plan None e = e
   by_plan (Some q) e = (e.0, goes e.1, e.2)
 
--- what an event makes of the catalogue, of the drive, of what the channels have open, and of the cached blocks
+-- what an event makes of the catalogue, of the drive, of what the channels have open, of the cached blocks, and of free header slots
 pub record IsDriven (w : Plain) (t : List Resource) (bs : List Block) (ns : List NodeState) (h : List Entry) : Type 0 where
   pub cat : Cat
   pub replayed : Replays w.opening w.script h cat
@@ -176,18 +177,20 @@ pub record IsDriven (w : Plain) (t : List Resource) (bs : List Block) (ns : List
   pub opens : AreOpensLocked t (open_now cat ns)
   pub opened : (m : ℕ) (q : NodeState) → node_at ns m ≡ Some q → HasOpens cat m q.opens
   pub cached : AreCached (altered w t bs ns h) own cat
+  pub blank : AreBlank w.geometry base own
 
 -- an event that leaves the history, and what each channel has open
 pub still_driven : (w : Plain) (good : Good w) → (n : ℕ) (s r : NodeState) → node_at w.nodes n ≡ Some s → (t : List Resource) (bs : List Block) → AsksAlike (granted_ask s.tried s.plan) (granted_ask r.tried r.plan) → r.opens ≡ s.opens
-    → (base : List Block) (own : Owners) → IsUnderOn w.geometry good.running.cat base own (nodes_under t (set_node w.nodes n r)) bs → AreOpensLocked t (open_now good.running.cat w.nodes)
+    → (base : List Block) (own : Owners) → AreBlank w.geometry base own → IsUnderOn w.geometry good.running.cat base own (nodes_under t (set_node w.nodes n r)) bs → AreOpensLocked t (open_now good.running.cat w.nodes)
     → AreCached (altered w t bs (set_node w.nodes n r) w.history) own good.running.cat → IsDriven w t bs (set_node w.nodes n r) w.history
-still_driven w good n s r at t bs alike same base own drive opens cached = record {
+still_driven w good n s r at t bs alike same base own blank drive opens cached = record {
   cat = good.running.cat;
   replayed = good.running.replayed;
   base = base;
   own = own;
   drive = drive;
   cached = cached;
+  blank = blank;
   accounted = good.running.accounted;
   near = good.running.near;
   sized = good.running.sized;
@@ -220,6 +223,7 @@ rebuilt w good n s r at t bs h driven locked own small few others goes stocked w
     opened = driven.opened;
     stocked = all_set w.nodes n s r at (λ m q. IsStocked q) stocked (λ m q ne e. good.running.stocked m q e);
     cached = driven.cached;
+    blank = driven.blank;
   };
   locked = locked;
   nodes = nodes;

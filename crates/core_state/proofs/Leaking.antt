@@ -18,7 +18,7 @@ use Rattle.vol_under.proofs.Guarding.{guard_stays, death_write, death_look, outs
 use Rattle.vol_under.proofs.Lying.{over_same}
 use Rattle.vol_under.proofs.Nodes.{changed_here, each, done_alike}
 use Rattle.vol_under.proofs.Steps.{idle_lawful}
-use Rattle.vol_under.proofs.Endings.{changed_again, leaked_stays, dead_spelt}
+use Rattle.vol_under.proofs.Endings.{changed_again, dead_spelt}
 use Rattle.vol_under.proofs.Leaking.{outside_may_leak, leaks_count, leaks_flagged, flagged_alike}
 use Rattle.core_cached.specs.Committed.{IsUnderOn}
 use Rattle.core_cached.proofs.Committed.{commit_on}
@@ -58,7 +58,7 @@ module _ (g : Geometry) (c : Cat) (base : List Block) (own : Owners) (nodes : �
 
   under_then : IsUnderOn g (dead c n (length stock.clusters) ns) base new (changed nodes n rest) drive
   under_then = record {
-    spelt = dead_spelt g base own new c n (length stock.clusters) ns u.spelt moves (leaked_stays n stock.numbers own.numbers numbers)
+    spelt = dead_spelt g base own new c n (length stock.clusters) ns u.spelt moves
         (leaks_count n stock.clusters own.clusters out.clusters.once clusters ∙ ap (λ k. k + length stock.clusters) (sym u.spelt.owners.leaked))
         (leaks_flagged stock.numbers own.numbers ∙ ap (λ (fs : List Bool). flagged fs (file_numbers stock)) (sym u.spelt.owners.leaked_numbers) ∙ sym (flagged_alike ns (file_numbers stock) c.leaked_numbers are.same));
     over = over_same (λ m. writes_to (nodes m).done (nodes m)) (λ m. writes_to (changed nodes n rest m).done (changed nodes n rest m)) base drive u.over (done_alike nodes n rest (sym (ap (λ v. writes_to v.done v) is)));

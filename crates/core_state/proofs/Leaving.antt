@@ -260,7 +260,7 @@ module _ (w : Plain) (good : Good w) (n : ℕ) (s : NodeState) (at : node_at w.n
 
   pub leaves_keep : Good (altered w after w.blocks (set_node w.nodes n r) w.history)
   leaves_keep = rebuilt w good n s r at after w.blocks w.history
-      (still_driven w good n s r at after w.blocks (λ part o low. refl) refl base own under_then (opens_left n s.kept w.locks (open_now cat w.nodes) good.locked.0 good.running.opens) cached_then)
+      (still_driven w good n s r at after w.blocks (λ part o low. refl) refl base own good.running.blank under_then (opens_left n s.kept w.locks (open_now cat w.nodes) good.locked.0 good.running.opens) cached_then)
       (swept.table, held_set after w.nodes n s r at held_then) good.own
       (small_left w good.small n s r at after w.blocks (left_little first_sequence is_first n s.kept w.locks) (left_little second_sequence is_second n s.kept w.locks) owes)
       (good.few n) (λ m ne. refl) loses

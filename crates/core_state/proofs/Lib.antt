@@ -56,6 +56,8 @@ pub mod KeptReplies
 pub mod CachedReplies
 pub mod Looks
 pub mod Backs
+pub mod Blanks
+pub mod Wants
 pub mod Backing
 pub mod Comes
 pub mod InStock

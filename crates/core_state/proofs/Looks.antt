@@ -22,11 +22,10 @@ use Rattle.op_law.specs.declared.seen.Seen.{Seen}
 use Rattle.op_law.specs.Events.{space_of}
 use Rattle.op_law.specs.Needs.{events_of}
 use Rattle.op_law.specs.Fits.{things, HasSeen}
-use Rattle.plain_rules.specs.Laws.{makes_file as wants_number}
 use Rattle.op_law.specs.Laws.{held_in, takes_lock}
 use Rattle.core_space.specs.Searching.{Found, More, Short, Enough, places, found}
 use Rattle.core_space.specs.Taking.{looked}
-use Rattle.core_space.specs.Answering.{answered, blocks_of}
+use Rattle.core_space.specs.Answering.{answered, blocks_alone}
 use Rattle.core_space.proofs.Taken.{number_is_new}
 use Rattle.core_space.specs.declared.run.Phase.{Phase}
 use Rattle.core_space.specs.declared.run.Phase.TheVariants as phase
@@ -51,6 +50,7 @@ use Rattle.core_state.proofs.Taking.{becomes, is_committed}
 use Rattle.core_state.proofs.SmallWorlds.{owes_same}
 use Rattle.core_state.proofs.Beginning.{alone, stays_stocked}
 use Rattle.core_state.proofs.Seeking.{part_stands, part_touches, all_left, left_of, next_in_order, wants_some, some_writes, refused_why}
+use Rattle.core_state.proofs.Wants.{wants_alike}
 use Rattle.core_state.proofs.Standing.{none_taken}
 use Rattle.core_state.proofs.Turning.{take_none, my_sole, under_command, here, drive, back, outs_now, seen_now, guards_now, stocked_now, is_node, goes, not_yet, plan_stays, asks_now, asks_then, no_wait, no_writes_now, me}
 use Rattle.core_state.proofs.Serving.{no_number}
@@ -207,10 +207,10 @@ module _ (w : Plain) (good : Good w) (n : ℕ) (s : NodeState) (at : node_at w.n
 
     -- ---- while it is filled
 
-    pub fill_look_keeps : FillLooks x s.kept s.claims s.run s.stock s.seen → fill_place g (clusters_to_take (wanted_by x s.seen) (length s.stock.clusters)) (lacks_by x s.seen s.stock) (blocks_of s.run.looked) ≡ Some lbn
+    pub fill_look_keeps : FillLooks x s.kept s.claims s.run s.stock s.seen → fill_place g (clusters_to_take (wanted_by x s.seen) (length s.stock.clusters)) (lacks_by x s.seen s.stock) (blocks_alone s.run.looked) ≡ Some lbn
         → Good (with_node w n (space_seen_so s (wanted_by x s.seen) (numbered_by x s.seen) lbn b es reads hits))
     fill_look_keeps h next = subst (λ (p : Phase). Good (with_node w n (come_as (decision_in p g more (roomless s.stock) (space_need (wanted_by x s.seen) (numbered_by x s.seen)))))) (sym h.filling.fill)
-        (by_place (fill_place g wanted (lacks_by x s.seen s.stock) (blocks_of more)) refl) where
+        (by_place (fill_place g wanted (lacks_by x s.seen s.stock) (blocks_alone more)) refl) where
           wanted : ℕ
           wanted = clusters_to_take (wanted_by x s.seen) (length s.stock.clusters)
 
@@ -226,41 +226,41 @@ module _ (w : Plain) (good : Good w) (n : ℕ) (s : NodeState) (at : node_at w.n
           keeps : (p : Phase) → AreKept p s.kept
           keeps p = keeps_on s.run.phase p s.kept (inl not_last) (me w good n s at x cmd free).store.kept
 
-          in_order : more ≡ looked g 1 (lacks_by x s.seen s.stock) (blocks_of more)
-          in_order = next_in_order g 1 (lacks_by x s.seen s.stock) s.run.looked lbn b h.filling.in_order (fill_at g wanted (lacks_by x s.seen s.stock) (blocks_of s.run.looked) lbn next)
+          in_order : more ≡ looked g 1 (lacks_by x s.seen s.stock) (blocks_alone more)
+          in_order = next_in_order g 1 (lacks_by x s.seen s.stock) s.run.looked lbn b h.filling.in_order (fill_at g wanted (lacks_by x s.seen s.stock) (blocks_alone s.run.looked) lbn next)
 
           filling_on : (d : Decision) → d.phase ≡ phase.Fill → IsFilling x s.kept s.claims (come_as d).run (lacks_by x s.seen s.stock) s.seen
           filling_on d e = record { fill = e; shared = h.filling.shared; claims = h.filling.claims; needs = h.filling.needs; in_order = in_order }
 
-          by_filled : (o : Option (List PlanWrite)) → filled g (wanted_by x s.seen) (length s.stock.clusters) (lacks_by x s.seen s.stock) (blocks_of more) ≡ o → Good (with_node w n (come_as (fill_or_give g more (roomless s.stock) o)))
+          by_filled : (o : Option (List PlanWrite)) → filled g (wanted_by x s.seen) (length s.stock.clusters) (lacks_by x s.seen s.stock) (blocks_alone more) ≡ o → Good (with_node w n (come_as (fill_or_give g more (roomless s.stock) o)))
           by_filled (Some ws) e =
               let d : Decision = decides phase.Fill ws in
               goes_so d refl (keeps phase.Fill) (owes phase.Fill (inl refl) d refl) (Grabs (record {
                 filling = filling_on d refl;
                 enough = e;
-                part = fill_some g (wanted_by x s.seen) (numbered_by x s.seen) s.stock (blocks_of more) ws h.lacking e;
+                part = fill_some g (wanted_by x s.seen) (numbered_by x s.seen) s.stock (blocks_alone more) ws h.lacking e;
               }))
           by_filled None e = back_so phase.Drain (keeps phase.Drain) (owes phase.Drain (inr refl)) rules (give_place g s.stock.clusters s.stock.numbers more) refl where
             rules : (d : Decision) → d.phase ≡ phase.Drain → IsGoingBack g s.stock (come_as d).run → Rules x s.kept s.claims (come_as d).run s.stock s.seen
             rules d f goes_back = Drains (record { drain = f; shared = h.filling.shared; claims = h.filling.claims; needs = h.filling.needs; goes = goes_back })
 
-          by_place : (o : Option ℕ) → fill_place g wanted (lacks_by x s.seen s.stock) (blocks_of more) ≡ o → Good (with_node w n (come_as (fill_by g more (roomless s.stock) (space_need (wanted_by x s.seen) (numbered_by x s.seen)) o)))
+          by_place : (o : Option ℕ) → fill_place g wanted (lacks_by x s.seen s.stock) (blocks_alone more) ≡ o → Good (with_node w n (come_as (fill_by g more (roomless s.stock) (space_need (wanted_by x s.seen) (numbered_by x s.seen)) o)))
           by_place (Some l) e =
               let d : Decision = looks_on phase.Fill in
               goes_so d refl (keeps phase.Fill) (owes phase.Fill (inl refl) d refl) (Fills (record {
                 filling = filling_on d refl;
                 lacking = h.lacking;
-                more = some_is (fill_place g wanted (lacks_by x s.seen s.stock) (blocks_of more)) l e;
+                more = some_is (fill_place g wanted (lacks_by x s.seen s.stock) (blocks_alone more)) l e;
                 writes = refl;
                 made = refl;
               }))
-          by_place None e = by_filled (filled g (wanted_by x s.seen) (length s.stock.clusters) (lacks_by x s.seen s.stock) (blocks_of more)) refl
+          by_place None e = by_filled (filled g (wanted_by x s.seen) (length s.stock.clusters) (lacks_by x s.seen s.stock) (blocks_alone more)) refl
 
     -- ---- while all free space is searched
 
-    module _ (h : IsLooking x s.kept s.claims s.run s.stock s.seen) (next : slice_get (places g (wanted_by x s.seen) (wants_number x)) (length (blocks_of s.run.looked)) ≡ Some lbn) where
-      in_order : more ≡ looked g (wanted_by x s.seen) (wants_number x) (blocks_of more)
-      in_order = next_in_order g (wanted_by x s.seen) (wants_number x) s.run.looked lbn b h.claimed_so.in_order next
+    module _ (h : IsLooking x s.kept s.claims s.run s.stock s.seen) (next : slice_get (places g (wanted_by x s.seen) (numbered_by x s.seen)) (length (blocks_alone s.run.looked)) ≡ Some lbn) where
+      in_order : more ≡ looked g (wanted_by x s.seen) (numbered_by x s.seen) (blocks_alone more)
+      in_order = next_in_order g (wanted_by x s.seen) (numbered_by x s.seen) s.run.looked lbn b h.claimed_so.in_order next
 
       claimed_on : (d : Decision) → d.phase ≡ phase.Last → HasClaimed x s.kept s.claims (come_as d).run s.stock s.seen
       claimed_on d e = record { last = e; alone = h.claimed_so.alone; claims = h.claimed_so.claims; empty = h.claimed_so.empty; come = h.claimed_so.come; in_order = in_order }
@@ -271,7 +271,7 @@ module _ (w : Plain) (good : Good w) (n : ℕ) (s : NodeState) (at : node_at w.n
       last_kept : AreKept phase.Last s.kept
       last_kept = keeps_on s.run.phase phase.Last s.kept (inr refl) (me w good n s at x cmd free).store.kept
 
-      by_found : (f : Found) → found g (wanted_by x s.seen) (wants_number x) (blocks_of more) ≡ f → (next_lbn : ℕ) → Good (with_node w n (come_as (search_by (answered next_lbn f))))
+      by_found : (f : Found) → found g (wanted_by x s.seen) (numbered_by x s.seen) (blocks_alone more) ≡ f → (next_lbn : ℕ) → Good (with_node w n (come_as (search_by (answered next_lbn f))))
       by_found More e next_lbn =
           let d : Decision = looks_on phase.Last in
           goes_so d refl last_kept (last_owes d refl) (Looking (record { claimed_so = claimed_on d refl; needs = h.needs; more = e; writes = refl; made = refl }))
@@ -281,18 +281,19 @@ module _ (w : Plain) (good : Good w) (n : ℕ) (s : NodeState) (at : node_at w.n
             found = record {
               claimed_so = claimed_on d refl;
               enough = e;
-              above = number_is_new g (wanted_by x s.seen) (wants_number x) (blocks_of more) ws under.base under.own cat e under.spelt (subst (StandsIn under.base) in_order more_stands) (λ m from to. good.running.system m to);
+              above = number_is_new g (wanted_by x s.seen) (numbered_by x s.seen) (blocks_alone more) ws under.base under.own cat e under.spelt (subst (StandsIn under.base) in_order more_stands) (λ m from to. good.running.system m to);
             };
             needs = h.needs;
-            part = some_writes g (wanted_by x s.seen) (wants_number x) (blocks_of more) ws (wants_some (events_of g s.seen.channel x) s.seen.locks s.seen.blocks (space_of s.seen) (wanted_by x s.seen) (wants_number x) h.needs.none h.needs.next) e;
+            part = some_writes g (wanted_by x s.seen) (numbered_by x s.seen) (blocks_alone more) ws (wants_some (events_of g s.seen.channel x) s.seen.locks s.seen.blocks (space_of s.seen) (wanted_by x s.seen) (numbered_by x s.seen) h.needs.none h.needs.next) e;
             ready = refl;
           }))
       by_found (Short why) e next_lbn =
           let d : Decision = record { phase = phase.Last; writes = []; short = Some why } in
           let r : NodeState = come_as d in
+          let wants_same : numbered_by x r.seen ≡ numbered_by x s.seen = wants_alike x r.seen s.seen refl refl in
           left_so d (sym (λ i. things (h.needs.none.clusters i) (h.needs.none.number i))) refl (λ f. few_none r h.claimed_so.empty) (last_owes d refl)
           (is_node w good n s at x cmd free w.locks w.blocks r refl refl refl refl (record { kept = last_kept; few = store.few; cache = store.cache; guarding = store.guarding }) (me w good n s at x cmd free).rests
-          ((goes w good n s at x cmd free).refused s.seen (wanted_by x s.seen) (wants_number x) why now.seen h.needs.next (refused_why g (wanted_by x s.seen) (wants_number x) (blocks_of more) why e))
+          ((goes w good n s at x cmd free).refused s.seen (wanted_by x s.seen) (numbered_by x s.seen) why now.seen h.needs.next (refused_why g (wanted_by x s.seen) (numbered_by x s.seen) (blocks_alone more) why e))
           now.own (plan_stays w good n s at x cmd free w.locks r no_plan refl refl) (asks_then w good n s at x cmd free r no_plan refl (asks_now w good n s at x cmd free no_plan))
           (Busy x refl (Refused (record {
             claimed_so = record {
@@ -300,11 +301,11 @@ module _ (w : Plain) (good : Good w) (n : ℕ) (s : NodeState) (at : node_at w.n
               alone = h.claimed_so.alone;
               claims = h.claimed_so.claims;
               empty = h.claimed_so.empty;
-              come = record { takes = h.claimed_so.come.takes; before = h.claimed_so.come.before; after = h.claimed_so.come.after; locks = h.claimed_so.come.locks; quota = h.claimed_so.come.quota; behind = λ l k. absurd (no_number s.seen.number h.needs.none.number l.0 (h.claimed_so.come.behind l k)) };
-              in_order = in_order;
+              come = record { takes = h.claimed_so.come.takes; before = h.claimed_so.come.before; after = h.claimed_so.come.after; locks = h.claimed_so.come.locks; blocks = h.claimed_so.come.blocks; quota = h.claimed_so.come.quota; behind = λ l k. absurd (no_number s.seen.number h.needs.none.number l.0 (h.claimed_so.come.behind l k)) };
+              in_order = in_order ∙ ap (λ c. looked g (wanted_by x s.seen) c (blocks_alone more)) (sym wants_same);
             };
             why = why;
-            too_little = e;
+            too_little = ap (λ c. found g (wanted_by x s.seen) c (blocks_alone more)) wants_same ∙ e;
             writes = refl;
             made = refl;
             clusters = refl;
@@ -313,6 +314,6 @@ module _ (w : Plain) (good : Good w) (n : ℕ) (s : NodeState) (at : node_at w.n
           })))
           (no_wait w good n s at x cmd free r.seen))
 
-      pub last_look_keeps : Good (with_node w n (space_seen_so s (wanted_by x s.seen) (wants_number x) lbn b es reads hits))
-      last_look_keeps = subst (λ (p : Phase). Good (with_node w n (come_as (decision_in p g more (roomless s.stock) (space_need (wanted_by x s.seen) (wants_number x)))))) (sym h.claimed_so.last)
-          (by_found (found g (wanted_by x s.seen) (wants_number x) (blocks_of more)) refl (slice_index_or (places g (wanted_by x s.seen) (wants_number x)) (length (blocks_of more)) 0))
+      pub last_look_keeps : Good (with_node w n (space_seen_so s (wanted_by x s.seen) (numbered_by x s.seen) lbn b es reads hits))
+      last_look_keeps = subst (λ (p : Phase). Good (with_node w n (come_as (decision_in p g more (roomless s.stock) (space_need (wanted_by x s.seen) (numbered_by x s.seen)))))) (sym h.claimed_so.last)
+          (by_found (found g (wanted_by x s.seen) (numbered_by x s.seen) (blocks_alone more)) refl (slice_index_or (places g (wanted_by x s.seen) (numbered_by x s.seen)) (length (blocks_alone more)) 0))

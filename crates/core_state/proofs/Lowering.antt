@@ -274,7 +274,7 @@ module _ (w : Plain) (good : Good w) (n : ℕ) (s : NodeState) (at : node_at w.n
         let sole : AreSole (nodes_under w.locks w.nodes) = are_sole w.locks w.nodes good.locked.0 good.locked.1 in
         let is : IsLoweredTo w n s r after = lowered under none in
         rebuilt w good n s r at after w.blocks w.history
-        (still_driven w good n s r at after w.blocks (λ part o low. ap (λ (d : Course). open_with part (granted_ask d.tried d.plan) o) same_course) (ap (λ (k : Rest). k.opens) same_rest) base own under_then opens
+        (still_driven w good n s r at after w.blocks (λ part o low. ap (λ (d : Course). open_with part (granted_ask d.tried d.plan) o) same_course) (ap (λ (k : Rest). k.opens) same_rest) base own good.running.blank under_then opens
         (lowered_cached w sole good.writers n s r after is (are_sole after (set_node w.nodes n r) low.table held_then) (guarding_of w good) (all_higher w good) own cat good.running.cached))
         (low.table, held_then) good.own small (good.few n) (λ m ne. refl) loses stocked
         (lowered_writes w sole good.writers n s r after is)

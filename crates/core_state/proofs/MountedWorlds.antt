@@ -23,8 +23,8 @@ use Rattle.vol_parts.specs.declared.finding.Finding.{Finding}
 use Rattle.vol_parts.specs.Findings.{home_at, Accepts, CatOf}
 use Rattle.vol_analyze.specs.Judging.{IsJudged}
 use Rattle.base_words.specs.Lists.{Has}
-use Rattle.vol_spell.specs.Owners.{nothing}
-use Rattle.vol_under.specs.UnderWay.{resting}
+use Rattle.vol_spell.specs.Owners.{nothing, Outs}
+use Rattle.vol_under.specs.UnderWay.{UnderWay, resting}
 use Rattle.vol_under.specs.Under.{IsUnder}
 use Rattle.vol_under.proofs.Steps.{mount_stands, nodes_alike}
 use Rattle.core_state.specs.Worlds.{NodeState, Plain, node_at, rows_of, rows_in, rows_at}
@@ -40,6 +40,7 @@ use Rattle.plain_histories.proofs.Naming.{closed_names}
 use Rattle.plain_histories.specs.Usages.{AreNear, HasSmallFiles}
 use Rattle.core_state.proofs.Falling.{none_fallen}
 use Rattle.core_state.proofs.Opens.{opens_none, opens_same}
+use Rattle.core_state.proofs.Blanks.{nothing_blank}
 use Rattle.core_state.proofs.SmallBegun.{few_newborn}
 use Rattle.core_state.proofs.SmallWorlds.{small_mounted}
 use Rattle.core_state.proofs.Channels.{none_opened}
@@ -100,6 +101,9 @@ module _ (bs : List Block) (s : Script) (c : Cat) (g : Geometry) (form : InForm 
     by_node None e = refl
     by_node (Some r) e = ap (λ y. under_by [] n (Some y)) (sym (at_rest_at s.nodes x n r e))
 
+  drive_now : IsUnder g c (nodes_under [] w.nodes) bs
+  drive_now = nodes_alike g c (λ n. resting nothing) (nodes_under [] w.nodes) bs under drive
+
   no_locks : (n : ℕ) → joined (rows_at w.nodes n) ≡ []
   no_locks n = by_node (node_at w.nodes n) refl where
     by_node : (o : Option NodeState) → node_at w.nodes n ≡ o → joined (rows_in o) ≡ []
@@ -134,7 +138,7 @@ module _ (bs : List Block) (s : Script) (c : Cat) (g : Geometry) (form : InForm 
     running = record {
       cat = c;
       replayed = refl;
-      drive = nodes_alike g c (λ n. resting nothing) (nodes_under [] w.nodes) bs under drive;
+      drive = drive_now;
       accounted = accounted;
       near = near;
       sized = sized;
@@ -145,6 +149,7 @@ module _ (bs : List Block) (s : Script) (c : Cat) (g : Geometry) (form : InForm 
       opened = λ n r e. subst (λ (y : NodeState). HasOpens c n y.opens) (sym (at_rest_at s.nodes x n r e)) (none_opened c 64 n none_open);
       stocked = λ n r e. subst IsStocked (sym (at_rest_at s.nodes x n r e)) (record { holds = inl (record { given = refl; stock = refl }); few = inl (omega arith) });
       cached = λ n r k e has. absurd (subst (λ (y : NodeState). Has y.cache k) (at_rest_at s.nodes x n r e) has);
+      blank = nothing_blank g drive_now.base drive_now.own (λ n. subst (λ (u : UnderWay). Outs n drive_now.own u.took u.stock) (sym (under n)) (drive_now.outs n));
     };
     locked = (record { ordered = refl; used = refl; settled_all = tt }, nothing_is_held (rows_at w.nodes) no_locks);
     nodes = λ n r e. subst (λ (y : NodeState). IsNode w n y) (sym (at_rest_at s.nodes x n r e)) (node n);

@@ -32,7 +32,7 @@ use Rattle.op_law.specs.Knows.{knows, is_granted}
 use Rattle.op_law.specs.Needs.{IsNext}
 use Rattle.op_law.specs.Laws.{held_in, planned, most_outside, KeepsOut, IsPlan}
 use Rattle.core_space.specs.Searching.{More, Short, Enough, places, found, found_clusters, free_from, cluster_writes}
-use Rattle.core_space.specs.Answering.{blocks_of}
+use Rattle.core_space.specs.Answering.{blocks_alone}
 use Rattle.core_space.proofs.Looked.{places_lie}
 use Rattle.core_state.specs.Worlds.{NodeState, Plain, node_at, rows_of, rows_in}
 use Rattle.core_state.specs.Asks.{writes_by, writes_now}
@@ -223,13 +223,13 @@ module _ (w : Plain) (good : Good w) (n : ℕ) (s : NodeState) (at : node_at w.n
 
     -- V was granted, as it has looked at a block of a bitmap
     looked_at : (ys : List (ℕ × Block)) → s.run.looked ≡ ys → Has (held_in PW (held_by w.locks n s)) V
-    looked_at [] e = absurd (not_short g (wanted_by x s.seen) (numbered_by x s.seen) h.why under.spelt.counts.geometry (ap (λ (zs : List (ℕ × Block)). found g (wanted_by x s.seen) (numbered_by x s.seen) (blocks_of zs)) (sym e) ∙ h.too_little))
+    looked_at [] e = absurd (not_short g (wanted_by x s.seen) (numbered_by x s.seen) h.why under.spelt.counts.geometry (ap (λ (zs : List (ℕ × Block)). found g (wanted_by x s.seen) (numbered_by x s.seen) (blocks_alone zs)) (sym e) ∙ h.too_little))
     looked_at (y ∷ ys) e = is_in_held PW (held_by w.locks n s) V (record { in_mode = k.in_mode; has = k.has; strong = strong_so (by_row (has_parted s.kept (s.asked ++ (s.claims ++ [])) (V, k.in_mode) (held_among w.locks n (rows_of s) (V, k.in_mode) k.has))) }) where
       among : Has s.run.looked y
       among = subst (λ (zs : List (ℕ × Block)). Has zs y) (sym e) (inl refl)
 
       place : Has (places g (wanted_by x s.seen) (numbered_by x s.seen)) y.0
-      place = in_places (places g (wanted_by x s.seen) (numbered_by x s.seen)) (blocks_of s.run.looked) y (subst (λ (zs : List (ℕ × Block)). Has zs y) h.claimed_so.in_order among)
+      place = in_places (places g (wanted_by x s.seen) (numbered_by x s.seen)) (blocks_alone s.run.looked) y (subst (λ (zs : List (ℕ × Block)). Has zs y) h.claimed_so.in_order among)
 
       u : UnderWay
       u = under_with w.locks n s s.cmd

@@ -8,7 +8,7 @@ use Rattle.op_law.specs.declared.need.Plan.{Plan}
 use Rattle.op_law.specs.Needs.{IsNext}
 use Rattle.op_law.specs.Fits.{things}
 use Rattle.core_space.specs.Taking.{out_after}
-use Rattle.core_space.specs.Answering.{blocks_of}
+use Rattle.core_space.specs.Answering.{blocks_alone}
 use Rattle.core_space.specs.declared.run.Phase.TheVariants as phase
 use Rattle.core_state.specs.Worlds.{NodeState, Plain, node_at}
 use Rattle.core_state.specs.Stocks.{taken_in, taken_now}
@@ -54,7 +54,7 @@ module _ (s : NodeState) where
   by_rules y is (Grabs h) =
       let taken : taken_now s.run ≡ taken_in phase.Fill s.run.writes s.run.made = part_taken s.run.phase s.run.writes s.run.made h.part ∙ ap (λ p. taken_in p s.run.writes s.run.made) h.filling.fill in
       inr (
-        subst (λ (t : Things). length t.numbers ≤ 9) (sym taken) (fill_few s.seen.geometry (wanted_by y s.seen) (length s.stock.clusters) (lacks_by y s.seen s.stock) (blocks_of s.run.looked) s.run.writes s.run.made h.enough),
+        subst (λ (t : Things). length t.numbers ≤ 9) (sym taken) (fill_few s.seen.geometry (wanted_by y s.seen) (length s.stock.clusters) (lacks_by y s.seen s.stock) (blocks_alone s.run.looked) s.run.writes s.run.made h.enough),
         undecided y is h.filling.needs.next,
       )
   by_rules y is (Filled h) = inl (all_taken s.run.phase s.run.writes s.run.made h.all)

@@ -12,6 +12,7 @@ use Rattle.vol_spell.specs.Owners.{Owners, Things, Outs}
 use Rattle.base_words.proofs.ListWrites.{touches_joined, stands_joined}
 use Rattle.base_words.proofs.Listing.{has_parted, has_first, has_second}
 use Rattle.vol_parts.specs.declared.geometry.Geometry.{Geometry}
+use Rattle.vol_spell.specs.Spelling.{AreBlank}
 use Rattle.vol_under.specs.Guards.{Guard, Lock, guard_of, MayLook}
 use Rattle.core_cached.specs.Committed.{IsUnderOn}
 use Rattle.core_cached.proofs.Guarded.{spaces_stay}
@@ -56,6 +57,7 @@ use Rattle.core_state.proofs.Claims.{keeps_on}
 use Rattle.core_state.proofs.Looks.{taken_zero, come_so, space_seen_so, some_is}
 use Rattle.core_state.proofs.Givings.{give_once, give_under}
 use Rattle.core_state.proofs.Backs.{IsBackWrite, back_write}
+use Rattle.core_state.proofs.Blanks.{bits_blank}
 use Rattle.core_state.proofs.Midway.{looks, rewrites_it, here_so, drive_so, outs_so, seen_so, law_so, wide_so, guard_held, not_done}
 
 module _ (w : Plain) (good : Good w) (n : ℕ) (s : NodeState) (at : node_at w.nodes n ≡ Some s) (on : is_out s ≡ false) (granted : waits_at w.locks n s.claims ≡ false) (claims : s.claims ≡ (V, PW) ∷ []) where
@@ -178,7 +180,7 @@ module _ (w : Plain) (good : Good w) (n : ℕ) (s : NodeState) (at : node_at w.n
 
       written_so : (last : Bool) → GoodWith (grabbed phase.Back last)
       written_so last = rebuilt w good n s q at w.locks written w.history
-          (still_driven w good n s q at w.locks written (λ part o low. refl) refl (slice_set under.base v.lbn v.block) drive_now.new
+          (still_driven w good n s q at w.locks written (λ part o low. refl) refl (slice_set under.base v.lbn v.block) drive_now.new blank_then
           (under_now w.geometry cat (slice_set under.base v.lbn v.block) drive_now.new w.locks w.locks w.nodes n s q written at (λ m y ne e. refl)
           (subst (λ (k : UnderWay). IsUnderOn w.geometry cat (slice_set under.base v.lbn v.block) drive_now.new (changed (nodes_under w.locks w.nodes) n k) written) there (back_drive (slice_set under.base v.lbn v.block) drive_now.new (record u { seen = rest; stock = left_then }) written drive_now.under)))
           good.running.opens
@@ -222,13 +224,21 @@ module _ (w : Plain) (good : Good w) (n : ℕ) (s : NodeState) (at : node_at w.n
               | inr m ↦ h.apart v.lbn m b.bitmap
             ]
 
+            -- the slots of numbers outside are free
+            blank_now : AreBlank g under.base under.own
+            blank_now = subst (λ (k : Geometry). AreBlank k good.running.drive.base good.running.drive.own) (sym me.geometry) good.running.blank
+
             guarded : IsPlanGuarded g cat n (record u { seen = rest; stock = left_then })
             guarded base own spelt stands outs l k = guard_held w good n s at base own left_then spelt ((stands_joined base (unwritten (take (t + 1) ws) s.run.looked) s.seen.blocks).0 stands).1 outs l k
 
             drive_now : GrabsBy g cat under.base under.own (changed (nodes_under w.locks w.nodes) n (record u { seen = rest; stock = left_then })) w.blocks n v.lbn v.block
             drive_now = rewrites_it g cat (nodes_under w.locks w.nodes) w.blocks n u (here_so w good n s at) under sole v.lbn b.old v.block left_then rest some_left
                 (law_so w good n s at (unwritten (take (t + 1) ws) s.run.looked) u.read u.write u.stock (wide_so w good n s at)) untouched b.bitmap holds_v not_seen there_now
-                (λ stands. b.refill under.base under.own under.spelt (subst (λ (k : Things). Outs n under.own u.took k) stock_so (outs_so w good n s at)) stands) guarded
+                (λ stands. b.refill under.base under.own under.spelt blank_now (subst (λ (k : Things). Outs n under.own u.took k) stock_so (outs_so w good n s at)) stands) guarded
+
+            -- and are so with the write
+            blank_then : AreBlank w.geometry (slice_set under.base v.lbn v.block) drive_now.new
+            blank_then = bits_blank w.geometry n good.running.drive.base good.running.drive.own drive_now.new cat v.lbn v.block good.running.drive.spelt (subst (λ (k : Geometry). IsBitmap k v.lbn) me.geometry b.bitmap) drive_now.moves good.running.blank
 
             it : IsWriteOf w n s q under.own v
             it = record {

@@ -22,7 +22,7 @@ use Rattle.extent_cache.specs.Takings.{holds_enough}
 use Rattle.core_space.specs.declared.outcome.Search.{Search}
 use Rattle.core_space.specs.declared.outcome.Search.TheVariants as search
 use Rattle.core_space.specs.Searching.{places}
-use Rattle.core_space.specs.Answering.{answered, answer, blocks_of}
+use Rattle.core_space.specs.Answering.{answered, answer, blocks_alone}
 use Rattle.core_space.proofs.Ending.{looks_in_order}
 use Rattle.core_space.proofs.Looked.{places_lie}
 use Rattle.core_space.proofs.Taken.{takes_all}
@@ -190,7 +190,7 @@ module _ (w : Plain) (good : Good w) (n : ℕ) (s : NodeState) (at : node_at w.n
     drain_to : s.run.phase ≡ phase.Drain → (o : Option PlanWrite) (l : Option ℕ) → slice_get s.run.writes s.run.made ≡ o → next_give st ≡ l → now_by ≡ by_rule s phase.Drain nd (drain_so o l)
     drain_to ph o l eo el = at_phase phase.Drain ph ∙ (λ i. by_rule s phase.Drain nd (drain_so (eo i) (el i)))
 
-    last_to : s.run.phase ≡ phase.Last → (a c : Bool) (o : Option PlanWrite) (r : Search) → is_exclusive (mode_in X ls) ≡ a → is_writer (mode_in V ls) ≡ c → slice_get s.run.writes s.run.made ≡ o → answer g k b (blocks_of s.run.looked) ≡ r → now_by ≡ by_rule s phase.Last nd (last_so a c o r)
+    last_to : s.run.phase ≡ phase.Last → (a c : Bool) (o : Option PlanWrite) (r : Search) → is_exclusive (mode_in X ls) ≡ a → is_writer (mode_in V ls) ≡ c → slice_get s.run.writes s.run.made ≡ o → answer g k b (blocks_alone s.run.looked) ≡ r → now_by ≡ by_rule s phase.Last nd (last_so a c o r)
     last_to ph a c o r ea ec eo er = at_phase phase.Last ph ∙ (λ i. by_rule s phase.Last nd (last_so (ea i) (ec i) (eo i) (er i)))
 
     abbrev put_now : Option PlanWrite
@@ -244,7 +244,7 @@ module _ (w : Plain) (good : Good w) (n : ℕ) (s : NodeState) (at : node_at w.n
     fills_so h =
         let l = there_is (next_fill st nd) h.more in
         subst GoodBy (sym (fill_to h.filling.fill true true None (Some l.it) (ap is_shared (mode_kept X CR h.filling.shared)) (writer_now h.filling.claims) (none_at s.run.writes s.run.made h.writes) l.is))
-        (let its = lies l.it (fill_looked g (clusters_to_take k (length s.stock.clusters)) (lacks_number b s.stock.numbers) (blocks_of s.run.looked) l.it l.is) in
+        (let its = lies l.it (fill_looked g (clusters_to_take k (length s.stock.clusters)) (lacks_number b s.stock.numbers) (blocks_alone s.run.looked) l.it l.is) in
         looks_by h.filling.claims l.it its (λ c es reads hits there store entries. fill_look_keeps w good n s at x cmd free no_plan granted h.filling.claims h.writes h.made l.it c es reads hits its there store entries h l.is))
 
     grabs_so : FillWrites x s.kept s.claims s.run s.stock s.seen → GoodBy now_by
@@ -256,7 +256,7 @@ module _ (w : Plain) (good : Good w) (n : ℕ) (s : NodeState) (at : node_at w.n
     filled_so : HasFilled x s.kept s.claims s.run s.stock s.seen → GoodBy now_by
     filled_so h =
         let le : length s.run.writes ≤ s.run.made = let e = h.all in omega arith in
-        subst GoodBy (sym (fill_to h.fill true true None None (ap is_shared (mode_kept X CR h.shared)) (writer_now h.claims) (none_behind s.run.writes s.run.made le) (fill_over g k b s.stock (blocks_of s.run.looked) h.enough)))
+        subst GoodBy (sym (fill_to h.fill true true None None (ap is_shared (mode_kept X CR h.shared)) (writer_now h.claims) (none_behind s.run.writes s.run.made le) (fill_over g k b s.stock (blocks_alone s.run.looked) h.enough)))
         (v_keeps w good n s at on granted h.claims x cmd h)
 
     drains_so : IsDraining x s.kept s.claims s.run s.stock s.seen → GoodBy now_by
@@ -279,15 +279,15 @@ module _ (w : Plain) (good : Good w) (n : ℕ) (s : NodeState) (at : node_at w.n
 
     alone_so : AsksAlone x s.kept s.claims s.run s.stock s.seen → GoodBy now_by
     alone_so h = elim h.claims [
-      | inl e ↦ subst GoodBy (sym (last_to ph false (is_writer (mode_in V ls)) put_now (answer g k b (blocks_of s.run.looked)) (ap is_exclusive (mode_kept X NL e.1)) refl refl refl)) (alone_keeps w good n s at on x cmd free no_plan h.run e.0 e.1 h.empty h.needs)
-      | inr e ↦ subst GoodBy (sym (last_to ph true false put_now (answer g k b (blocks_of s.run.looked)) (ap is_exclusive (mode_claimed (X, EX) e)) (no_writer (x_claim EX e)) refl refl)) (last_keeps w good n s at on x cmd free no_plan h.run e granted h.empty h.needs)
+      | inl e ↦ subst GoodBy (sym (last_to ph false (is_writer (mode_in V ls)) put_now (answer g k b (blocks_alone s.run.looked)) (ap is_exclusive (mode_kept X NL e.1)) refl refl refl)) (alone_keeps w good n s at on x cmd free no_plan h.run e.0 e.1 h.empty h.needs)
+      | inr e ↦ subst GoodBy (sym (last_to ph true false put_now (answer g k b (blocks_alone s.run.looked)) (ap is_exclusive (mode_claimed (X, EX) e)) (no_writer (x_claim EX e)) refl refl)) (last_keeps w good n s at on x cmd free no_plan h.run e granted h.empty h.needs)
     ] where
       ph : s.run.phase ≡ phase.Last
       ph = ap (λ (y : SpaceRun). y.phase) h.run
 
     looking_so : IsLooking x s.kept s.claims s.run s.stock s.seen → GoodBy now_by
     looking_so h =
-        let bs : List Block = blocks_of s.run.looked in
+        let bs : List Block = blocks_alone s.run.looked in
         let lbn : ℕ = slice_index_or (places g k b) (length bs) 0 in
         let looks : answer g k b bs ≡ search.Look lbn = ap (answered lbn) h.more in
         let next : slice_get (places g k b) (length bs) ≡ Some lbn = looks_in_order g k b bs lbn looks in
@@ -299,13 +299,13 @@ module _ (w : Plain) (good : Good w) (n : ℕ) (s : NodeState) (at : node_at w.n
     taking_so h =
         let v = some_at s.run.writes s.run.made h.part in
         let c = h.found.claimed_so in
-        subst GoodBy (sym (last_to c.last true true (Some v.write) (answer g k b (blocks_of s.run.looked)) (ap is_exclusive (mode_kept X EX c.alone)) (writer_now c.claims) v.at refl ∙ ap by_put v.at))
+        subst GoodBy (sym (last_to c.last true true (Some v.write) (answer g k b (blocks_alone s.run.looked)) (ap is_exclusive (mode_kept X EX c.alone)) (writer_now c.claims) v.at refl ∙ ap by_put v.at))
         (last_write_keeps w good n s at x cmd free no_plan granted c.claims h.needs v.write v.at h)
 
     -- a command that was given space does not need it
     pub taken_not : HasTaken x s.kept s.claims s.run s.stock s.seen → ⊥
     taken_not h =
-        let all_so = takes_all g k b (blocks_of s.run.looked) s.run.writes h.found.enough in
+        let all_so = takes_all g k b (blocks_alone s.run.looked) s.run.writes h.found.enough in
         let no_clusters : wanted_by x s.seen ≡ 0 = sym (ap length (sym has_none.clusters ∙ h.clusters) ∙ all_so.clusters) in
         let no_number : numbered_by x s.seen ≡ false = sym (ap is_some (sym has_none.number ∙ h.number) ∙ all_so.number) in
         wanted (no_clusters, no_number)

@@ -23,7 +23,7 @@ use Rattle.op_law.specs.declared.need.PlanWrite.{PlanWrite}
 use Rattle.op_law.specs.Events.{Events, Take, Look, Fetch, Find, Make, Space, has_space, HasNoSpace, following}
 use Rattle.core_space.specs.Searching.{More, Short, Enough, places, free_number, free_from, number_write, cluster_writes, found_clusters, found_number, found}
 use Rattle.core_space.specs.Taking.{looked}
-use Rattle.core_space.specs.Answering.{blocks_of}
+use Rattle.core_space.specs.Answering.{blocks_alone}
 use Rattle.core_space.proofs.Ways.{short_of}
 use Rattle.core_space.proofs.Looked.{places_lie, looked_grows}
 use Rattle.core_space.proofs.Apart.{writes_apart}
@@ -127,18 +127,18 @@ zip_none : {A B : Type 0} (xs : List A) → zip xs (let ys : List B = [] in ys) 
 zip_none [] = refl
 zip_none (x ∷ xs) = refl
 
-pub blocks_next : (ss : List (ℕ × Block)) (l : ℕ) (b : Block) → blocks_of (ss ++ (l, b) ∷ []) ≡ blocks_of ss ++ b ∷ []
+pub blocks_next : (ss : List (ℕ × Block)) (l : ℕ) (b : Block) → blocks_alone (ss ++ (l, b) ∷ []) ≡ blocks_alone ss ++ b ∷ []
 blocks_next [] l b = refl
 blocks_next (s ∷ ss) l b = ap (λ bs. s.1 ∷ bs) (blocks_next ss l b)
 
 -- one more in order
-pub next_in_order : (g : Geometry) (clusters : ℕ) (number : Bool) (ss : List (ℕ × Block)) (l : ℕ) (b : Block) → ss ≡ looked g clusters number (blocks_of ss) → slice_get (places g clusters number) (length (blocks_of ss)) ≡ Some l
-    → ss ++ (l, b) ∷ [] ≡ looked g clusters number (blocks_of (ss ++ (l, b) ∷ []))
+pub next_in_order : (g : Geometry) (clusters : ℕ) (number : Bool) (ss : List (ℕ × Block)) (l : ℕ) (b : Block) → ss ≡ looked g clusters number (blocks_alone ss) → slice_get (places g clusters number) (length (blocks_alone ss)) ≡ Some l
+    → ss ++ (l, b) ∷ [] ≡ looked g clusters number (blocks_alone (ss ++ (l, b) ∷ []))
 next_in_order g clusters number ss l b is at =
-    ap (λ zs. zs ++ (l, b) ∷ []) is ∙ sym (looked_grows g clusters number (blocks_of ss) l b at) ∙ ap (looked g clusters number) (sym (blocks_next ss l b))
+    ap (λ zs. zs ++ (l, b) ∷ []) is ∙ sym (looked_grows g clusters number (blocks_alone ss) l b at) ∙ ap (looked g clusters number) (sym (blocks_next ss l b))
 
-pub none_in_order : (g : Geometry) (clusters : ℕ) (number : Bool) (ss : List (ℕ × Block)) → ss ≡ [] → ss ≡ looked g clusters number (blocks_of ss)
-none_in_order g clusters number ss e = e ∙ sym (zip_none (places g clusters number)) ∙ ap (λ (zs : List (ℕ × Block)). zip (places g clusters number) (blocks_of zs)) (sym e)
+pub none_in_order : (g : Geometry) (clusters : ℕ) (number : Bool) (ss : List (ℕ × Block)) → ss ≡ [] → ss ≡ looked g clusters number (blocks_alone ss)
+none_in_order g clusters number ss e = e ∙ sym (zip_none (places g clusters number)) ∙ ap (λ (zs : List (ℕ × Block)). zip (places g clusters number) (blocks_alone zs)) (sym e)
 
 get_has : (xs : List ℕ) (k l : ℕ) → slice_get xs k ≡ Some l → Has xs l
 get_has [] k l e = absurd (let f : None ≡ Some l = e in cc)

@@ -53,6 +53,7 @@ use Rattle.core_state.proofs.Running.{held_among, at_locks}
 use Rattle.core_state.proofs.Taking.{becomes}
 use Rattle.core_state.proofs.SmallWorlds.{OwesLess, owed_busy}
 use Rattle.core_state.proofs.Beginning.{alone}
+use Rattle.core_state.proofs.Wants.{wants_alike, search_behind}
 use Rattle.core_state.proofs.Standing.{calm, none_taken}
 use Rattle.core_state.proofs.Turning.{under_command, here, drive, back, outs_now, seen_now, guards_now, space_now, stocked_now, is_node, goes, may_need, not_yet, plan_stays, asks_now, asks_then, no_wait, no_writes_now, me}
 
@@ -186,7 +187,7 @@ module _ (w : Plain) (good : Good w) (n : ℕ) (s : NodeState) (at : node_at w.n
       let may = may_need w good n s at x cmd free (need.Space k b) is in
       record {
         needs = record {
-          come = record { takes = may.0.takes; before = s.seen.locks; after = []; locks = sym (append-nil s.seen.locks); quota = may.0.quota; behind = λ l h. absurd h };
+          come = record { takes = may.0.takes; before = s.seen.locks; after = []; locks = sym (append-nil s.seen.locks); blocks = search_behind x s.seen k b may.0.takes is; quota = may.0.quota; behind = λ l h. absurd h };
           next = is ∙ (λ i. need.Space (may.0.clusters_are i) (may.0.number_is i));
           none = may.1;
           apart = λ l touched bitmap.
@@ -329,8 +330,8 @@ module _ (w : Plain) (good : Good w) (n : ℕ) (s : NodeState) (at : node_at w.n
         (Busy x refl (Given (record {
           run = λ i. record (run_is i) { phase = phase.Fill };
           claims = served_so.none;
-          come = record { takes = so.needs.come.takes; before = so.needs.come.before; after = so.needs.come.after; locks = so.needs.come.locks; quota = so.needs.come.quota; behind = λ l h. absurd (no_number s.seen.number so.needs.none.number l.0 (so.needs.come.behind l h)) };
-          has = ap (λ (z : ℕ). has_space z (numbered_by x r.seen) (space_of r.seen)) (sym so.clusters) ∙ ap (λ (z : Bool). has_space k z (space_of r.seen)) (sym so.number) ∙ enough_now;
+          come = record { takes = so.needs.come.takes; before = so.needs.come.before; after = so.needs.come.after; locks = so.needs.come.locks; blocks = so.needs.come.blocks; quota = so.needs.come.quota; behind = λ l h. absurd (no_number s.seen.number so.needs.none.number l.0 (so.needs.come.behind l h)) };
+          has = ap (λ (z : ℕ). has_space z (numbered_by x r.seen) (space_of r.seen)) (sym so.clusters) ∙ ap (λ (z : Bool). has_space k z (space_of r.seen)) (wants_alike x r.seen s.seen refl refl ∙ sym so.number) ∙ enough_now;
           above = above;
           short = refl;
         })))

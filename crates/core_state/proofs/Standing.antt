@@ -20,14 +20,15 @@ use Rattle.op_law.specs.declared.need.Need.TheVariants as need
 use Rattle.op_law.specs.declared.need.PlanWrite.{PlanWrite}
 use Rattle.op_law.specs.declared.need.Ask.{Ask}
 use Rattle.op_law.specs.declared.seen.Seen.{Seen}
+use Rattle.op_law.specs.Events.{space_of, has_space}
 use Rattle.op_law.specs.Needs.{IsNext}
 use Rattle.op_law.specs.Fits.{things}
 use Rattle.op_law.specs.Going.{with_block, with_lock}
 use Rattle.op_law.specs.Knows.{channel_of, has_channel, wanted, is_new_number, is_short, knows}
-use Rattle.plain_rules.specs.Laws.{makes_file as wants_number}
 use Rattle.op_law.specs.Laws.{held_in, takes_lock, ComesInTurn}
+use Rattle.core_space.specs.Searching.{Found, found}
 use Rattle.core_space.specs.Taking.{looked}
-use Rattle.core_space.specs.Answering.{blocks_of}
+use Rattle.core_space.specs.Answering.{blocks_alone}
 use Rattle.core_space.proofs.Shortage.{shortage_is_exact, command_is_short}
 use Rattle.core_space.specs.declared.run.Phase.{Phase}
 use Rattle.core_space.specs.declared.run.Phase.TheVariants as phase
@@ -35,10 +36,11 @@ use Rattle.core_space.specs.declared.run.SpaceRun.{SpaceRun}
 use Rattle.core_state.specs.Worlds.{Stock, NodeState, Plain, node_at, rows_in}
 use Rattle.core_state.specs.Asks.{lock_of_ask, with_ask}
 use Rattle.core_state.specs.Stocks.{things_in, taken_in, taken_by, taken_now, stock_now, looked_now}
-use Rattle.core_state.specs.Searches.{wanted_by, IsOfNumber, HasCome, IsOff, IsGivingBack, IsRefused, Rules, Served, Given, Shared, Fills, Grabs, Filled, Drains, Alone, Looking, Taking, Taken, Refused, Spaces, Off, Back, Busy}
+use Rattle.core_state.specs.Searches.{wanted_by, numbered_by, IsOfNumber, HasCome, IsOff, IsGivingBack, IsRefused, Rules, Served, Given, Shared, Fills, Grabs, Filled, Drains, Alone, Looking, Taking, Taken, Refused, Spaces, Off, Back, Busy}
 use Rattle.core_state.specs.Stores.{HasNothing}
 use Rattle.core_state.specs.Goods.{under_with, under_by, nodes_under, IsAt, Good, held_by}
 use Rattle.core_state.proofs.Holding.{in_held_is, held_named}
+use Rattle.core_state.proofs.Wants.{wants_alike, wants_still}
 use Rattle.core_state.proofs.Knowing.{knows_all}
 use Rattle.core_state.proofs.Channels.{opens_hold, channel_known}
 use Rattle.core_state.specs.Channels.{channel_now}
@@ -189,6 +191,7 @@ come_more x seen name mode c own = record {
   before = c.before;
   after = c.after ++ (name, mode) ∷ [];
   locks = ap (λ ls. ls ++ (name, mode) ∷ []) c.locks ∙ assoc c.before c.after ((name, mode) ∷ []);
+  blocks = c.blocks;
   quota = c.quota;
   behind = λ l h. elim (has_parted c.after ((name, mode) ∷ []) l h) [
     | inl k ↦ c.behind l k
@@ -210,11 +213,22 @@ comes_behind x seen Q own new turn c = absurd (new (subst (λ (ls : Row). Has (n
 comes_behind x seen X own new turn c = absurd (let e : false ≡ true = own in cc)
 comes_behind x seen V own new turn c = absurd (let e : false ≡ true = sym (ap not c.takes) ∙ own in cc)
 
+-- where it wants what it wanted, it has the space that it had
+space_still : (x : Cmd) (seen then : Seen) → numbered_by x then ≡ numbered_by x seen → has_space (wanted_by x seen) (numbered_by x seen) (space_of seen) ≡ true → has_space (wanted_by x seen) (numbered_by x then) (space_of seen) ≡ true
+space_still x seen then same has = ap (λ number. has_space (wanted_by x seen) number (space_of seen)) same ∙ has
+
+-- what its search looks at, with a number or none, and what it has found
+abbrev looks_for : Cmd → SpaceRun → Seen → Bool → List (ℕ × Block)
+looks_for x run seen number = looked seen.geometry (wanted_by x seen) number (blocks_alone run.looked)
+
+abbrev finds : Cmd → SpaceRun → Seen → Bool → Found
+finds x run seen number = found seen.geometry (wanted_by x seen) number (blocks_alone run.looked)
+
 -- the command asks for a lock
 rules_lock : (x : Cmd) (kept claims : Row) (run : SpaceRun) (stock : Stock) (seen : Seen) (name : LockName) (mode : Mode) → ((k : ℕ) (number : Bool) → IsNext x seen (need.Space k number) → ⊥) → (HasCome x seen → IsOfNumber seen.number name) → name ≢ X
     → Rules x kept claims run stock seen → Rules x (without name kept) claims run stock (with_lock name mode seen)
 rules_lock x kept claims run stock seen name mode never behind ne (Served h) = absurd (never _ _ h.needs.next)
-rules_lock x kept claims run stock seen name mode never behind ne (Given h) = Given (record { run = h.run; claims = h.claims; come = come_more x seen name mode h.come (behind h.come); has = h.has; above = h.above; short = h.short })
+rules_lock x kept claims run stock seen name mode never behind ne (Given h) = Given (record { run = h.run; claims = h.claims; come = come_more x seen name mode h.come (behind h.come); has = space_still x seen (with_lock name mode seen) (wants_alike x (with_lock name mode seen) seen refl refl) h.has; above = h.above; short = h.short })
 rules_lock x kept claims run stock seen name mode never behind ne (Shared h) = absurd (never _ _ h.needs.next)
 rules_lock x kept claims run stock seen name mode never behind ne (Fills h) = absurd (never _ _ h.filling.needs.next)
 rules_lock x kept claims run stock seen name mode never behind ne (Grabs h) = absurd (never _ _ h.filling.needs.next)
@@ -225,10 +239,11 @@ rules_lock x kept claims run stock seen name mode never behind ne (Looking h) = 
 rules_lock x kept claims run stock seen name mode never behind ne (Taking h) = absurd (never _ _ h.needs.next)
 rules_lock x kept claims run stock seen name mode never behind ne (Taken h) =
     let c = h.found.claimed_so in
+    let same = wants_alike x (with_lock name mode seen) seen refl refl in
     Taken (record {
       found = record {
-        claimed_so = record { last = c.last; alone = stays_without kept name (X, EX) c.alone (λ e. ne (sym e)); claims = c.claims; empty = c.empty; come = come_more x seen name mode c.come (behind c.come); in_order = c.in_order };
-        enough = h.found.enough;
+        claimed_so = record { last = c.last; alone = stays_without kept name (X, EX) c.alone (λ e. ne (sym e)); claims = c.claims; empty = c.empty; come = come_more x seen name mode c.come (behind c.come); in_order = c.in_order ∙ ap (looks_for x run seen) (sym same) };
+        enough = ap (finds x run seen) same ∙ h.found.enough;
         above = h.found.above;
       };
       all = h.all;
@@ -238,10 +253,11 @@ rules_lock x kept claims run stock seen name mode never behind ne (Taken h) =
     })
 rules_lock x kept claims run stock seen name mode never behind ne (Refused h) =
     let c = h.claimed_so in
+    let same = wants_alike x (with_lock name mode seen) seen refl refl in
     Refused (record {
-      claimed_so = record { last = c.last; alone = stays_without kept name (X, EX) c.alone (λ e. ne (sym e)); claims = c.claims; empty = c.empty; come = come_more x seen name mode c.come (behind c.come); in_order = c.in_order };
+      claimed_so = record { last = c.last; alone = stays_without kept name (X, EX) c.alone (λ e. ne (sym e)); claims = c.claims; empty = c.empty; come = come_more x seen name mode c.come (behind c.come); in_order = c.in_order ∙ ap (looks_for x run seen) (sym same) };
       why = h.why;
-      too_little = h.too_little;
+      too_little = ap (finds x run seen) same ∙ h.too_little;
       writes = h.writes;
       made = h.made;
       clusters = h.clusters;
@@ -258,11 +274,14 @@ lock_seen x kept claims run stock seen name mode calmly never behind ne stands =
 
 -- it looks at a block
 come_on : (x : Cmd) (seen : Seen) (lbn : ℕ) (b : Block) → HasCome x seen → HasCome x (with_block lbn b seen)
-come_on x seen lbn b c = record { takes = c.takes; before = c.before; after = c.after; locks = c.locks; quota = c.quota; behind = c.behind }
+come_on x seen lbn b c = record { takes = c.takes; before = c.before; after = c.after; locks = c.locks; blocks = longer seen.blocks (lbn, b) c.blocks; quota = c.quota; behind = c.behind } where
+  longer : (bs : List (ℕ × Block)) (y : ℕ × Block) → 0 < length bs → 0 < length (bs ++ y ∷ [])
+  longer [] y some = absurd (omega arith)
+  longer (z ∷ bs) y some = omega arith
 
 rules_block : (x : Cmd) (kept claims : Row) (run : SpaceRun) (stock : Stock) (seen : Seen) (lbn : ℕ) (b : Block) → ((k : ℕ) (number : Bool) → IsNext x seen (need.Space k number) → ⊥) → Rules x kept claims run stock seen → Rules x kept claims run stock (with_block lbn b seen)
 rules_block x kept claims run stock seen lbn b never (Served h) = absurd (never _ _ h.needs.next)
-rules_block x kept claims run stock seen lbn b never (Given h) = Given (record { run = h.run; claims = h.claims; come = come_on x seen lbn b h.come; has = h.has; above = h.above; short = h.short })
+rules_block x kept claims run stock seen lbn b never (Given h) = Given (record { run = h.run; claims = h.claims; come = come_on x seen lbn b h.come; has = space_still x seen (with_block lbn b seen) (wants_still x seen lbn b h.come.blocks) h.has; above = h.above; short = h.short })
 rules_block x kept claims run stock seen lbn b never (Shared h) = absurd (never _ _ h.needs.next)
 rules_block x kept claims run stock seen lbn b never (Fills h) = absurd (never _ _ h.filling.needs.next)
 rules_block x kept claims run stock seen lbn b never (Grabs h) = absurd (never _ _ h.filling.needs.next)
@@ -273,10 +292,11 @@ rules_block x kept claims run stock seen lbn b never (Looking h) = absurd (never
 rules_block x kept claims run stock seen lbn b never (Taking h) = absurd (never _ _ h.needs.next)
 rules_block x kept claims run stock seen lbn b never (Taken h) =
     let c = h.found.claimed_so in
+    let same = wants_still x seen lbn b c.come.blocks in
     Taken (record {
       found = record {
-        claimed_so = record { last = c.last; alone = c.alone; claims = c.claims; empty = c.empty; come = come_on x seen lbn b c.come; in_order = c.in_order };
-        enough = h.found.enough;
+        claimed_so = record { last = c.last; alone = c.alone; claims = c.claims; empty = c.empty; come = come_on x seen lbn b c.come; in_order = c.in_order ∙ ap (looks_for x run seen) (sym same) };
+        enough = ap (finds x run seen) same ∙ h.found.enough;
         above = h.found.above;
       };
       all = h.all;
@@ -286,10 +306,11 @@ rules_block x kept claims run stock seen lbn b never (Taken h) =
     })
 rules_block x kept claims run stock seen lbn b never (Refused h) =
     let c = h.claimed_so in
+    let same = wants_still x seen lbn b c.come.blocks in
     Refused (record {
-      claimed_so = record { last = c.last; alone = c.alone; claims = c.claims; empty = c.empty; come = come_on x seen lbn b c.come; in_order = c.in_order };
+      claimed_so = record { last = c.last; alone = c.alone; claims = c.claims; empty = c.empty; come = come_on x seen lbn b c.come; in_order = c.in_order ∙ ap (looks_for x run seen) (sym same) };
       why = h.why;
-      too_little = h.too_little;
+      too_little = ap (finds x run seen) same ∙ h.too_little;
       writes = h.writes;
       made = h.made;
       clusters = h.clusters;
@@ -378,8 +399,8 @@ module _ (w : Plain) (good : Good w) (n : ℕ) (s : NodeState) (at : node_at w.n
   by_rules (Taking h) = by_none h.needs.none.short
   by_rules (Taken h) = by_none h.short
   by_rules (Refused h) =
-      let stood : StandsIn drive.base (looked s.seen.geometry (wanted_by x s.seen) (wants_number x) (blocks_of s.run.looked)) = subst (StandsIn drive.base) h.claimed_so.in_order (looked_stands h.writes) in
-      let exact = shortage_is_exact s.seen.geometry (wanted_by x s.seen) (wants_number x) (blocks_of s.run.looked) h.why drive.base drive.own good.running.cat h.too_little drive.spelt (nobody_outside h) stood in
+      let stood : StandsIn drive.base (looked s.seen.geometry (wanted_by x s.seen) (numbered_by x s.seen) (blocks_alone s.run.looked)) = subst (StandsIn drive.base) h.claimed_so.in_order (looked_stands h.writes) in
+      let exact = shortage_is_exact s.seen.geometry (wanted_by x s.seen) (numbered_by x s.seen) (blocks_alone s.run.looked) h.why drive.base drive.own good.running.cat h.too_little drive.spelt (nobody_outside h) stood in
       ap (is_short good.running.cat (wanted s.seen x)) h.short
       ∙ command_is_short good.running.cat (wanted s.seen x) h.why exact
 

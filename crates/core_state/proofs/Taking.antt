@@ -12,7 +12,7 @@ use Rattle.vol_spell.specs.Owners.{Owners, OwnersMove, IsSpaceMove, Things, Outs
 use Rattle.base_words.proofs.Listing.{same_or_not}
 use Rattle.vol_parts.specs.declared.geometry.Geometry.{Geometry}
 use Rattle.vol_spell.specs.Spelling.{Spells}
-use Rattle.vol_under.specs.Guards.{guard_of, MayWrite, MayLook}
+use Rattle.vol_under.specs.Guards.{guard_of, MayWrite, MayLook, IsCommandMove}
 use Rattle.vol_under.specs.UnderWay.{PlannedWrite, bare, UnderWay, writes_to, idle, changed, AreSole}
 use Rattle.vol_under.specs.Under.{IsLawful, IsUnder}
 use Rattle.vol_under.specs.Answering.{IsReply}
@@ -23,10 +23,11 @@ use Rattle.core_cached.specs.Committed.{IsUnderOn, on_its_own, of_it}
 use Rattle.core_cached.proofs.Committed.{alike_on, write_on, plan_on, locks_on, answer_on, bits_keep_on}
 use Rattle.core_state.proofs.Driving.{quiet_keeps, looked_stands, lawful_wider}
 
--- what a node's answer leaves: its writes are committed
-pub record AnswersBy (g : Geometry) (c : Cat) (base : List Block) (nodes : ℕ → UnderWay) (drive : List Block) (n : ℕ) (u : UnderWay) (x : Cmd) (r : Reply) : Type 0 where
+-- what a node's answer leaves: its writes are committed, and owners have moved that the command may move
+pub record AnswersBy (g : Geometry) (c : Cat) (base : List Block) (own : Owners) (nodes : ℕ → UnderWay) (drive : List Block) (n : ℕ) (u : UnderWay) (x : Cmd) (r : Reply) : Type 0 where
   pub cat : Cat
   pub new : Owners
+  pub moves : OwnersMove (IsCommandMove n u.write) own new
   pub answer : Answer c n x r cat
   pub under : IsUnderOn g cat (written (writes_to u.done u) base) new (changed nodes n (idle u)) drive
 
@@ -92,21 +93,21 @@ module _ (g : Geometry) (c : Cat) (nodes : ℕ → UnderWay) (drive : List Block
       subst P is (λ a. write_on g c under.base under.own nodes drive n v sole on a) at
 
   -- it answers
-  pub answers : AreSole nodes → (x : Cmd) (r : Reply) → u.knows c ≡ true → u.done ≡ length u.plan → IsReply g n u x r → AnswersBy g c under.base nodes drive n u x r
+  pub answers : AreSole nodes → (x : Cmd) (r : Reply) → u.knows c ≡ true → u.done ≡ length u.plan → IsReply g n u x r → AnswersBy g c under.base under.own nodes drive n u x r
   answers sole x r known done reply =
-      let P : UnderWay → Type 0 = λ v. v.knows c ≡ true → v.done ≡ length v.plan → IsReply g n v x r → AnswersBy g c under.base nodes drive n v x r in
-      subst P is (λ a b d. let h = answer_on g c under.base under.own nodes drive n x r sole on a b d in record { cat = h.cat; new = h.new; answer = h.answer; under = h.under }) known done reply
+      let P : UnderWay → Type 0 = λ v. v.knows c ≡ true → v.done ≡ length v.plan → IsReply g n v x r → AnswersBy g c under.base under.own nodes drive n v x r in
+      subst P is (λ a b d. let h = answer_on g c under.base under.own nodes drive n x r sole on a b d in record { cat = h.cat; new = h.new; moves = h.moves; answer = h.answer; under = h.under }) known done reply
 
   -- it writes to a bitmap, at a block that it has not seen
   pub refills : AreSole nodes → u.plan ≡ [] → (l : ℕ) (old b : Block) (stock : Things) → IsBitmap g l → Has u.write V → (Touches u.seen l → ⊥) → slice_get drive l ≡ Some old
-      → ((base : List Block) (own : Owners) → Spells g base own c → Outs n own u.took u.stock → slice_get base l ≡ Some old → Refills g n u.took stock l b base own c)
+      → (slice_get under.base l ≡ Some old → Refills g n u.took stock l b under.base under.own c)
       → BitsBy g c under.base under.own nodes drive n u l b stock
   refills sole no_plan l old b stock bitmap holds unseen at refill =
       let P : UnderWay → Type 0 = λ v. v.plan ≡ [] → Has v.write V → (Touches v.seen l → ⊥)
-      → ((base : List Block) (own : Owners) → Spells g base own c → Outs n own v.took v.stock → slice_get base l ≡ Some old → Refills g n v.took stock l b base own c)
+      → (slice_get under.base l ≡ Some old → Refills g n v.took stock l b under.base under.own c)
       → BitsBy g c under.base under.own nodes drive n v l b stock in
       subst P is (λ p h s r.
-      let k = bits_keep_on g c under.base under.own nodes drive n l old b stock sole on (λ t. no_writes (nodes n) l p (done_in (nodes n) l t)) bitmap h s at (r under.base under.own under.spelt (under.outs n))
+      let k = bits_keep_on g c under.base under.own nodes drive n l old b stock sole on (λ t. no_writes (nodes n) l p (done_in (nodes n) l t)) bitmap h s at r
       (λ base own spelt stands outs j t. absurd (no_writes (nodes n) j p t)) in
       record { new = k.new; moves = k.moves; under = k.under }) no_plan holds unseen refill
 
@@ -141,7 +142,7 @@ module _ (g : Geometry) (c : Cat) (nodes : ℕ → UnderWay) (drive : List Block
   -- it answers, by more than it knew when it decided
   pub answers_by : AreSole nodes → (know : Cat → Bool) → IsLawful g n (record u { knows = know })
       → ((base : List Block) (own : Owners) → Spells g base own c → StandsIn base u.seen → Outs n own u.took u.stock → (l : ℕ) → Touches (bare u.plan) l → MayWrite n u.write (guard_of g own l))
-      → (x : Cmd) (r : Reply) → know c ≡ true → u.done ≡ length u.plan → IsReply g n (record u { knows = know }) x r → AnswersBy g c under.base nodes drive n u x r
+      → (x : Cmd) (r : Reply) → know c ≡ true → u.done ≡ length u.plan → IsReply g n (record u { knows = know }) x r → AnswersBy g c under.base under.own nodes drive n u x r
   answers_by sole know law guarded x r known done reply =
       let a : UnderWay = record u { knows = know } in
       let one : IsUnder g c (changed nodes n a) drive = of_it g c under.base under.own (changed nodes n a) drive (replans g c nodes drive n u is under know u.plan refl (omega (arith, done)) law guarded) in
@@ -151,6 +152,7 @@ module _ (g : Geometry) (c : Cat) (nodes : ℕ → UnderWay) (drive : List Block
       record {
         cat = two.cat;
         new = two.new;
+        moves = two.moves;
         answer = two.answer;
         under = alike_on g two.cat (written (writes_to u.done u) under.base) two.new (changed (changed nodes n a) n (idle a)) (changed nodes n (idle u)) drive (λ m. changed_twice nodes n a (idle u) m) two.under;
       }
@@ -165,7 +167,7 @@ pub record GrabsBy (g : Geometry) (c : Cat) (base : List Block) (own : Owners) (
 -- remain, and what the write takes is its stock, or its command's.
 pub grabs : (g : Geometry) (c : Cat) (nodes : ℕ → UnderWay) (drive : List Block) (n : ℕ) (u : UnderWay) (is : nodes n ≡ u) (under : IsUnder g c nodes drive) → AreSole nodes → u.plan ≡ [] → u.done ≡ 0
     → (l : ℕ) (old b : Block) (rest : List (ℕ × Block)) (stock : Things) → IsBitmap g l → Has u.write V → (Touches rest l → ⊥) → StandsIn under.base rest → ((k : ℕ) → Touches rest k → MayLook u.read (guard_of g under.own k)) → slice_get drive l ≡ Some old
-    → ((base : List Block) (own : Owners) → Spells g base own c → Outs n own u.took u.stock → slice_get base l ≡ Some old → Refills g n u.took stock l b base own c)
+    → (slice_get under.base l ≡ Some old → Refills g n u.took stock l b under.base under.own c)
     → (knows : Cat → Bool) (took left : Things) → ((own : Owners) → Outs n own u.took stock → Outs n own took left)
     → GrabsBy g c under.base under.own (changed nodes n (record u { seen = rest; knows = knows; took = took; stock = left })) drive n l b
 grabs g c nodes drive n u is under sole no_plan no_done l old b rest stock bitmap holds unseen stands guarded at refill knows took left goes =

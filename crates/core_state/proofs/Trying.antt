@@ -561,7 +561,7 @@ module _ (w : Plain) (good : Good w) (n : ℕ) (s : NodeState) (at : node_at w.n
 
         all : Good (altered w t w.blocks (set_node w.nodes n q) w.history)
         all = rebuilt w good n s q at t w.blocks w.history
-            (still_driven w good n s q at t w.blocks alike refl good.running.drive.base good.running.drive.own
+            (still_driven w good n s q at t w.blocks alike refl good.running.drive.base good.running.drive.own good.running.blank
             (under_now w.geometry cat good.running.drive.base good.running.drive.own w.locks t w.nodes n s q w.blocks at (λ m y ne e. rows_stand_still w.locks t m (rows_of y) (λ ls i. it.took.others m ls ne)) under_then)
             (subst (λ (u : List Resource). AreOpensLocked u (open_now cat w.nodes)) (sym asks_it) (opens_asked (A a.file) n a.mode w.locks (open_now cat w.nodes) good.running.opens))
             (taken_cached w (my_sole w good n s at x cmd free) good.writers n s q t takes (are_sole t (set_node w.nodes n q) it.took.table held_then) (guarding_of w good) good.running.drive.own cat good.running.cached))
@@ -678,6 +678,7 @@ module _ (w : Plain) (good : Good w) (n : ℕ) (s : NodeState) (at : node_at w.n
       own = good.running.drive.own;
       drive = under_now w.geometry cat good.running.drive.base good.running.drive.own w.locks t w.nodes n s q w.blocks at (λ m y off e. rows_stand_still w.locks t m (rows_of y) (λ ls i. still.still m ls)) under_then;
       cached = taken_cached w (my_sole w good n s at x cmd free) good.writers n s q t takes (are_sole t (set_node w.nodes n q) took.table held_q) (guarding_of w good) good.running.drive.own cat good.running.cached;
+      blank = good.running.blank;
       accounted = good.running.accounted;
       near = good.running.near;
       sized = good.running.sized;

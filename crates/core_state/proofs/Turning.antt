@@ -438,7 +438,7 @@ module _ (w : Plain) (good : Good w) (n : ℕ) (s : NodeState) (at : node_at w.n
         cache = refl;
       } in
       rebuilt w good n s r at t w.blocks w.history
-      (still_driven w good n s r at t w.blocks (λ part o low. refl) refl base_now own_now
+      (still_driven w good n s r at t w.blocks (λ part o low. refl) refl base_now own_now good.running.blank
       (under_now w.geometry good.running.cat base_now own_now w.locks t w.nodes n s r w.blocks at (λ m q ne e. rows_stand_still w.locks t m (rows_of q) (λ ls i. it.took.others m ls ne))
       (subst (λ (u : UnderWay). IsUnderOn w.geometry good.running.cat base_now own_now (changed (nodes_under w.locks w.nodes) n u) w.blocks) there (back v w.blocks up)))
       (opens_taken name n mode w.locks (open_now good.running.cat w.nodes) good.locked.0 (no_open_lock name may.own) it.took.may (not_cw mode may.in_mode) good.running.opens)
@@ -539,7 +539,7 @@ module _ (w : Plain) (good : Good w) (n : ℕ) (s : NodeState) (at : node_at w.n
       } in
       let stays : (name : LockName) (l : ℕ) → guard_of w.geometry own_now l ≡ Some (Lock name) → IsCacheable w.geometry own_now good.running.cat l → (guard_of w.geometry own_now l ≡ Some (Lock name)) × IsCacheable w.geometry own_now good.running.cat l = λ name l g k. (g, k) in
       rebuilt w good n s r at w.locks bs w.history
-      (still_driven w good n s r at w.locks bs (λ part o low. refl) refl base_now own_now
+      (still_driven w good n s r at w.locks bs (λ part o low. refl) refl base_now own_now good.running.blank
       (under_now w.geometry good.running.cat base_now own_now w.locks w.locks w.nodes n s r bs at (λ m q ne e. refl) (subst (λ (u : UnderWay). IsUnderOn w.geometry good.running.cat base_now own_now (changed (nodes_under w.locks w.nodes) n u) bs) there u))
       good.running.opens
       (put_cached w my_sole good.writers n s r own_now own_now good.running.cat good.running.cat v it stays good.running.cached))

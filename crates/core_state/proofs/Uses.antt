@@ -25,7 +25,7 @@ use Rattle.core_space.specs.declared.event.SpaceEvent.{SpaceEvent}
 use Rattle.core_space.specs.declared.event.SpaceEvent.TheVariants as space
 use Rattle.extent_cache.specs.Takings.{holds_enough}
 use Rattle.core_space.specs.Rule.{is_shared, is_exclusive, is_writer, written_first, after_looks, next_fill, next_give, by_search, event_in, space_event, back_event}
-use Rattle.core_space.specs.Answering.{answer, blocks_of}
+use Rattle.core_space.specs.Answering.{answer, blocks_alone}
 use Rattle.core_state.specs.Worlds.{NodeState, Plain, node_at, with_node, current}
 use Rattle.core_state.specs.Searches.{begun_run, Served, Given, Shared, Fills, Grabs, Filled, Drains, Alone, Looking, Taking, Taken, Refused, Rules, Spaces, Off, Back, Busy}
 use Rattle.core_state.specs.Stores.{AreKept}
@@ -160,7 +160,7 @@ module _ (w : Plain) (good : Good w) (n : ℕ) (s : NodeState) (at : node_at w.n
   under_v nd phase.Off e lbn f = claimed_writer s.run.phase s.kept s.claims keeps (off_first (holds_enough nd.clusters nd.number (space_state s).stock) (is_shared (space_state s).locks.x) (is_writer (space_state s).locks.v) (written_first s.run (after_looks (next_fill (space_state s) nd) space.LowerV)) lbn f)
   under_v nd phase.Fill e lbn f = claimed_writer s.run.phase s.kept s.claims keeps (asks_first (is_shared (space_state s).locks.x) (is_writer (space_state s).locks.v) CR (written_first s.run (after_looks (next_fill (space_state s) nd) space.LowerV)) lbn f)
   under_v nd phase.Drain e lbn f = drain_claims s.cmd s e (good.nodes n s at).space
-  under_v nd phase.Last e lbn f = claimed_writer s.run.phase s.kept s.claims keeps (asks_first (is_exclusive (space_state s).locks.x) (is_writer (space_state s).locks.v) EX (written_first s.run (by_search (answer s.seen.geometry nd.clusters nd.number (blocks_of s.run.looked)))) lbn f)
+  under_v nd phase.Last e lbn f = claimed_writer s.run.phase s.kept s.claims keeps (asks_first (is_exclusive (space_state s).locks.x) (is_writer (space_state s).locks.v) EX (written_first s.run (by_search (answer s.seen.geometry nd.clusters nd.number (blocks_alone s.run.looked)))) lbn f)
   under_v nd phase.Back e lbn f = claimed_writer s.run.phase s.kept s.claims keeps (back_first (is_writer (space_state s).locks.v) (written_first s.run (after_looks (next_give (space_state s)) space.Return)) lbn f)
 
   back_right : waits_at w.locks n s.claims ≡ false → IsRight (or_use w s (by_back s))

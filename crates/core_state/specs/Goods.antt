@@ -23,6 +23,7 @@ use Rattle.lock_db.specs.Tables.{IsTable}
 use Rattle.node_locks.specs.Held.{Row, names_of, AreHeld, waits_at, all_held}
 use Rattle.base_words.specs.Lists.{Has}
 use Rattle.vol_spell.specs.Owners.{nothing}
+use Rattle.vol_spell.specs.Spelling.{AreBlank}
 use Rattle.vol_under.specs.UnderWay.{UnderWay, resting}
 use Rattle.vol_under.specs.Under.{IsUnder}
 use Rattle.op_law.specs.declared.need.Need.TheVariants as need
@@ -80,7 +81,8 @@ HasSystemNumbers c = (n : ℕ) → n ≤ 11 → is_free_number c n ≡ false
 -- The history replays from the opening catalogue, and the drive is that of the catalogue to which it leads, with the writes done
 -- of each command under way. The catalogue keeps the limits of a volume and its quotas, and its opens name files. Each channel has
 -- the lock of what it has open, by the catalogue or by an ask that was granted. Each death is that of a node of the world, and usages
--- are above what files cost by what the deaths have left at most. What the nodes have open, cached and in stock is so.
+-- are above what files cost by what the deaths have left at most. What the nodes have open, cached and in stock is so. On the
+-- committed blocks the header slot of each number outside is free.
 pub record IsRunning (w : Plain) : Type 0 where
   pub cat : Cat
   pub replayed : Replays w.opening w.script w.history cat
@@ -95,6 +97,7 @@ pub record IsRunning (w : Plain) : Type 0 where
   pub opened : (n : ℕ) (s : NodeState) → node_at w.nodes n ≡ Some s → HasOpens cat n s.opens
   pub stocked : (n : ℕ) (s : NodeState) → node_at w.nodes n ≡ Some s → IsStocked s
   pub cached : AreCached w drive.own cat
+  pub blank : AreBlank w.geometry drive.base drive.own
 
 -- the lock table has for each node's file system the rows of locks that it has asked for
 abbrev pub AreLocked : Plain → Type 0

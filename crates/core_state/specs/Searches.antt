@@ -20,7 +20,7 @@ use Rattle.op_law.specs.Laws.{held_in}
 use Rattle.extent_cache.specs.Takings.{holds_enough}
 use Rattle.core_space.specs.Searching.{Found, More, Short, Enough, found}
 use Rattle.core_space.specs.Taking.{looked, out_after}
-use Rattle.core_space.specs.Answering.{blocks_of}
+use Rattle.core_space.specs.Answering.{blocks_alone}
 use Rattle.core_space.specs.declared.run.Phase.{Phase}
 use Rattle.core_space.specs.declared.run.Phase.TheVariants as phase
 use Rattle.core_space.specs.declared.run.SpaceRun.{SpaceRun}
@@ -48,13 +48,14 @@ abbrev pub IsOfNumber : Option ℕ → LockName → Type 0
 IsOfNumber number (S n) = number ≡ Some n
 IsOfNumber number other = ⊥
 
--- A command has come to its rules for space: it holds Q in PW, and behind the locks that it held then comes none but that of the file
+-- A command has come to its rules for space: it has looked at a block, it holds Q in PW, and behind the locks that it held then comes none but that of the file
 -- whose number it was given.
 pub record HasCome (x : Cmd) (seen : Seen) : Type 0 where
   pub takes : takes_space x ≡ true
   pub before : Row
   pub after : Row
   pub locks : seen.locks ≡ before ++ after
+  pub blocks : 0 < length seen.blocks
   pub quota : Has (held_in PW before) Q
   pub behind : (l : LockName × Mode) → Has after l → IsOfNumber seen.number l.0
 
@@ -108,7 +109,7 @@ pub record IsFilling (x : Cmd) (kept claimed : Row) (run : SpaceRun) (lacks : Bo
   pub shared : Has kept (X, CR)
   pub claims : claimed ≡ (V, PW) ∷ []
   pub needs : NeedsSpace x seen
-  pub in_order : run.looked ≡ looked seen.geometry 1 lacks (blocks_of run.looked)
+  pub in_order : run.looked ≡ looked seen.geometry 1 lacks (blocks_alone run.looked)
 
 -- whether the command lacks a number
 abbrev pub lacks_by : Cmd → Seen → Stock → Bool
@@ -118,14 +119,14 @@ lacks_by x seen stock = lacks_number (numbered_by x seen) stock.numbers
 pub record FillLooks (x : Cmd) (kept claimed : Row) (run : SpaceRun) (stock : Stock) (seen : Seen) : Type 0 where
   pub filling : IsFilling x kept claimed run (lacks_by x seen stock) seen
   pub lacking : is_enough x seen stock ≡ false
-  pub more : is_some (fill_place seen.geometry (clusters_to_take (wanted_by x seen) (length stock.clusters)) (lacks_by x seen stock) (blocks_of run.looked)) ≡ true
+  pub more : is_some (fill_place seen.geometry (clusters_to_take (wanted_by x seen) (length stock.clusters)) (lacks_by x seen stock) (blocks_alone run.looked)) ≡ true
   pub writes : run.writes ≡ []
   pub made : run.made ≡ 0
 
 -- these writes fill the stock, and not all of them are made
 pub record FillWrites (x : Cmd) (kept claimed : Row) (run : SpaceRun) (stock : Stock) (seen : Seen) : Type 0 where
   pub filling : IsFilling x kept claimed run (lacks_by x seen stock) seen
-  pub enough : filled seen.geometry (wanted_by x seen) (length stock.clusters) (lacks_by x seen stock) (blocks_of run.looked) ≡ Some run.writes
+  pub enough : filled seen.geometry (wanted_by x seen) (length stock.clusters) (lacks_by x seen stock) (blocks_alone run.looked) ≡ Some run.writes
   pub part : run.made < length run.writes
 
 -- each of these writes is under V
@@ -195,11 +196,11 @@ pub record HasClaimed (x : Cmd) (kept claimed : Row) (run : SpaceRun) (stock : S
   pub claims : claimed ≡ (V, PW) ∷ []
   pub empty : stock ≡ empty_stock
   pub come : HasCome x seen
-  pub in_order : run.looked ≡ looked seen.geometry (wanted_by x seen) (numbered_by x seen) (blocks_of run.looked)
+  pub in_order : run.looked ≡ looked seen.geometry (wanted_by x seen) (numbered_by x seen) (blocks_alone run.looked)
 
 -- what the search of a command has found in the blocks that it has looked at
 abbrev pub found_by : Cmd → Seen → SpaceRun → Found
-found_by x seen run = found seen.geometry (wanted_by x seen) (numbered_by x seen) (blocks_of run.looked)
+found_by x seen run = found seen.geometry (wanted_by x seen) (numbered_by x seen) (blocks_alone run.looked)
 
 -- the search goes on to look
 pub record IsLooking (x : Cmd) (kept claimed : Row) (run : SpaceRun) (stock : Stock) (seen : Seen) : Type 0 where

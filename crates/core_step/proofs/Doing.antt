@@ -34,7 +34,7 @@ use Rattle.op_law.specs.Events.{space_of, HasNoSpace}
 use Rattle.op_law.specs.Writing.{Held}
 use Rattle.core_space.specs.Searching.{places}
 use Rattle.core_space.specs.Taking.{out_after}
-use Rattle.core_space.specs.Answering.{blocks_of}
+use Rattle.core_space.specs.Answering.{blocks_alone}
 use Rattle.core_space.proofs.Ending.{looks_in_order}
 use Rattle.core_space.proofs.Looked.{places_lie}
 use Rattle.core_space.proofs.Writes.{writes_take}
@@ -329,7 +329,7 @@ module _ (w : Plain) (good : Good w) (n : ℕ) (s : NodeState) (at : node_at w.n
     fill_can h v next =
         let k : ℕ = wanted_by x s.seen in
         let lacks : Bool = lacks_by x s.seen s.stock in
-        let bs : List Block = blocks_of s.run.looked in
+        let bs : List Block = blocks_alone s.run.looked in
         let filling = writes_fill g k (length s.stock.clusters) lacks bs s.run.writes s.run.made v geometry_now h.enough next in
         record {
           next = next;
@@ -358,7 +358,7 @@ module _ (w : Plain) (good : Good w) (n : ℕ) (s : NodeState) (at : node_at w.n
 
     last_can : IsTaking x s.kept s.claims s.run s.stock s.seen → (v : PlanWrite) → slice_get s.run.writes s.run.made ≡ Some v → IsNextWrite w s v
     last_can h v next =
-        let taking = writes_take g (wanted_by x s.seen) (numbered_by x s.seen) (blocks_of s.run.looked) s.run.writes s.run.made v geometry_now h.found.enough next in
+        let taking = writes_take g (wanted_by x s.seen) (numbered_by x s.seen) (blocks_alone s.run.looked) s.run.writes s.run.made v geometry_now h.found.enough next in
         record {
           next = next;
           within = within v.lbn (elim taking.takes [
@@ -395,11 +395,11 @@ module _ (w : Plain) (good : Good w) (n : ℕ) (s : NodeState) (at : node_at w.n
     by_moves e (ClaimsLast run claims empty f) = subst (CanMove w n s) (sym f) (can_claim phase.Last V PW (one_claimed (X, EX) claims)
         (claimable phase.Last phase.Last V PW (one_claimed (X, EX) claims) run v_not_a pw_not_cw (v_new w good n s at on not_asked_v (one_x EX claims))))
     by_moves e (FillLook h lbn next f) = subst (CanMove w n s) (sym f) (can_look (wanted_by x s.seen) (numbered_by x s.seen) lbn (one_claimed (V, PW) h.filling.claims)
-        (looked_within lbn (fill_looked g (clusters_to_take (wanted_by x s.seen) (length s.stock.clusters)) (lacks_by x s.seen s.stock) (blocks_of s.run.looked) lbn next)))
+        (looked_within lbn (fill_looked g (clusters_to_take (wanted_by x s.seen) (length s.stock.clusters)) (lacks_by x s.seen s.stock) (blocks_alone s.run.looked) lbn next)))
     by_moves e (DrainLook h writes made lbn next f) = subst (CanMove w n s) (sym f) (can_look (wanted_by x s.seen) (numbered_by x s.seen) lbn (one_claimed (V, PW) h.claims)
         (looked_within lbn (give_looked g s.stock.clusters s.stock.numbers s.run.looked lbn next)))
     by_moves e (LastLook h lbn next f) = subst (CanMove w n s) (sym f) (can_look (wanted_by x s.seen) (numbered_by x s.seen) lbn (one_claimed (V, PW) h.claimed_so.claims)
-        (within lbn (next_lies g (wanted_by x s.seen) (numbered_by x s.seen) (length (blocks_of s.run.looked)) lbn under.base under.own good.running.cat (looks_in_order g (wanted_by x s.seen) (numbered_by x s.seen) (blocks_of s.run.looked) lbn next) under.spelt).0))
+        (within lbn (next_lies g (wanted_by x s.seen) (numbered_by x s.seen) (length (blocks_alone s.run.looked)) lbn under.base under.own good.running.cat (looks_in_order g (wanted_by x s.seen) (numbered_by x s.seen) (blocks_alone s.run.looked) lbn next) under.spelt).0))
     by_moves e (FillWrite h v next f) = subst (CanMove w n s) (sym f) (can_write v (one_claimed (V, PW) h.filling.claims) (fill_can h v next))
     by_moves e (DrainWrite h back v next f) = subst (CanMove w n s) (sym f) (can_write v (one_claimed (V, PW) h.claims) (back_can (inl h.drain) back v next))
     by_moves e (LastWrite h v next f) = subst (CanMove w n s) (sym f) (can_write v (one_claimed (V, PW) h.found.claimed_so.claims) (last_can h v next))

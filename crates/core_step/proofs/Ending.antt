@@ -136,13 +136,13 @@ module _ {w : Plain} (good : Good w) {n : ℕ} (r : IsReady w n) where
 
   -- ---- there is room for what it keeps
 
-  asked_few : length s.asked ≤ 5
+  asked_few : length s.asked ≤ 20
   asked_few =
       let d = drive w good n s r.at r.cmd r.has r.free in
       let brief = is_at.lawful.brief n s.seen d.base d.own good.running.cat is_at.seen (seen_on w good n s r.at r.cmd r.has r.free) in
       let few = brief.locks in
       let more = ask_more s.seen.locks (own_ask s.tried s.plan) in
-      subst (λ (ls : Row). length ls ≤ 5) (sym is_at.same) (omega (arith, few, more))
+      subst (λ (ls : Row). length ls ≤ 20) (sym is_at.same) (omega (arith, few, more))
 
   room_so : length s.kept + (length s.asked + length s.claims) ≤ 128
   room_so =

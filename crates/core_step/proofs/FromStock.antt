@@ -12,7 +12,7 @@ use Rattle.op_law.specs.Needs.{events_of, need_of, IsNext}
 use Rattle.op_law.specs.Fits.{FitsSeen}
 use Rattle.op_law.specs.Knows.{wanted}
 use Rattle.op_law.specs.Laws.{IsSearch}
-use Rattle.core_space.specs.Answering.{blocks_of}
+use Rattle.core_space.specs.Answering.{blocks_alone}
 use Rattle.core_space.proofs.Taken.{takes_all}
 use Rattle.core_space.specs.declared.run.Phase.TheVariants as phase
 use Rattle.core_space.specs.declared.run.SpaceRun.{SpaceRun}
@@ -27,6 +27,7 @@ use Rattle.core_state.proofs.Preparing.{has_prepared, readied_is}
 use Rattle.core_state.proofs.Seeking.{space_wanted, wants_some, wants_nothing, no_space}
 use Rattle.core_state.proofs.Serving.{so, enough_now, serve_keeps}
 use Rattle.core_state.proofs.Standing.{calm}
+use Rattle.core_state.proofs.Wants.{wants_alike}
 use Rattle.core_state.proofs.Turning.{under_command, drive, seen_on, may_need, space_now}
 use Rattle.core_state.proofs.Comes.{Moves, ClaimsX, ClaimsV, ClaimsBehind, ClaimsAlone, ClaimsLast, FillLook, DrainLook, LastLook, FillWrite, DrainWrite, LastWrite, Lowers, Drained}
 use Rattle.core_step.specs.Ready.{Makes, IsBegun, IsReady, NeedsNow, LacksSpace, IsSearching, IsNotSearching, is_searching, SearchesAsNeeded, IsGivenAll}
@@ -92,7 +93,7 @@ module _ {w : Plain} (good : Good w) {n : ℕ} (b : IsBegun w n) where
 
     taken_not : (k : ℕ) (c : Bool) → IsSearching s x k c → HasTaken x s.kept s.claims s.run s.stock s.seen → ⊥
     taken_not k c h t =
-        let all_so = takes_all s.seen.geometry (wanted_by x s.seen) (numbered_by x s.seen) (blocks_of s.run.looked) s.run.writes t.found.enough in
+        let all_so = takes_all s.seen.geometry (wanted_by x s.seen) (numbered_by x s.seen) (blocks_alone s.run.looked) s.run.writes t.found.enough in
         h.wants.some (sym h.wants.clusters_are ∙ sym (ap length (sym h.none.clusters ∙ t.clusters) ∙ all_so.clusters), sym h.wants.number_is ∙ sym (ap is_some (sym h.none.number ∙ t.number) ∙ all_so.number))
 
     by_rules : (k : ℕ) (c : Bool) → IsSearching s x k c → Rules x s.kept s.claims s.run s.stock s.seen → IsNext x s.seen (need.Space k c)
@@ -172,7 +173,7 @@ module _ {w : Plain} (good : Good w) {n : ℕ} (b : IsBegun w n) where
           let m = (may_need v good_served n r at_served x b.has b.free (need.Space j d) e).0 in
           let its = so w good n s b.at x b.has b.free no_plan k c is may in
           let same_k : k ≡ j = its.clusters ∙ sym m.clusters_are in
-          let same_c : c ≡ d = its.number ∙ sym m.number_is in
+          let same_c : c ≡ d = its.number ∙ wants_alike x s.seen r.seen refl refl ∙ sym m.number_is in
           let had : has_space j d (space_of r.seen) ≡ true = (λ i. has_space (sym same_k i) (sym same_c i) (space_of r.seen)) ∙ enough_now w good n s b.at x b.has b.free no_plan k c is may in
           let lacks : has_space j d (space_of r.seen) ≡ false = space_wanted (events_of r.seen.geometry r.seen.channel x) r.seen.locks r.seen.blocks (space_of r.seen) j d e in
           absurd (let f : true ≡ false = sym had ∙ lacks in cc)

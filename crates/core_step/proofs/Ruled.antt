@@ -12,7 +12,7 @@ use Rattle.op_law.specs.declared.need.PlanWrite.{PlanWrite}
 use Rattle.extent_cache.specs.Takings.{holds_enough}
 use Rattle.core_space.specs.declared.outcome.Search.{Search}
 use Rattle.core_space.specs.declared.outcome.Search.TheVariants as search
-use Rattle.core_space.specs.Answering.{answer, blocks_of}
+use Rattle.core_space.specs.Answering.{answer, blocks_alone}
 use Rattle.core_space.specs.declared.run.Phase.{Phase}
 use Rattle.core_space.specs.declared.run.Phase.TheVariants as phase
 use Rattle.core_space.specs.declared.run.SpaceNeed.{SpaceNeed}
@@ -87,7 +87,7 @@ module _ (s : NodeState) (lbn : ℕ) (b : Block) where
   by_phase need phase.Fill is = by_fill need is
   by_phase need phase.Drain is = by_give space.LowerX (λ e. absurd (let f : space.LowerX ≡ space.Put lbn b = e in cc)) is
   by_phase need phase.Last is =
-      let found = answer (space_state s).geometry need.clusters need.number (blocks_of s.run.looked) in
+      let found = answer (space_state s).geometry need.clusters need.number (blocks_alone s.run.looked) in
       let rest = after_writes (put_of (slice_get s.run.writes s.run.made)) (by_search found) in
       behind_x EX (is_exclusive (space_state s).locks.x) (cond (not (is_writer (space_state s).locks.v)) (space.Ask V PW) rest)
       (behind_v (is_writer (space_state s).locks.v) rest (written (by_search found) (not_search found))) is

@@ -4,9 +4,8 @@ use Rattle.std.specs.Prelude.{OnErr}
 use Rattle.plain_rules.specs.Lookups.{header_most, file_most}
 use Rattle.plain_rules.proofs.Usages.{product_le}
 use Rattle.plain_cat.specs.declared.command.Cmd.{Cmd}
-use Rattle.vol_parts.specs.declared.geometry.Geometry.{Geometry}
-use Rattle.op_law.specs.Knows.{clusters_wanted}
-use Rattle.plain_rules.specs.Laws.{makes_file as wants_number}
+use Rattle.op_law.specs.declared.seen.Seen.{Seen}
+use Rattle.op_law.specs.Knows.{clusters_wanted, wants_number}
 use Rattle.core_step.specs.Ready.{WantsSpace}
 
 -- the clusters of one header have no more blocks than a volume
@@ -16,8 +15,8 @@ blocks_fit b c k from to e few many =
     absurd (omega arith)
 
 -- a command that wants no clusters and no number searches for nothing
-pub wants_none : (g : Geometry) (x : Cmd) (k : ℕ) (b : Bool) → WantsSpace g x k b → (clusters_wanted g.cluster x ≡ 0) × (wants_number x ≡ false) → ⊥
-wants_none g x k b w z = w.some (sym w.clusters_are ∙ z.0, sym w.number_is ∙ z.1)
+pub wants_none : (seen : Seen) (x : Cmd) (k : ℕ) (b : Bool) → WantsSpace seen x k b → (clusters_wanted seen.geometry.cluster x ≡ 0) × (wants_number seen x ≡ false) → ⊥
+wants_none seen x k b w z = w.some (sym w.clusters_are ∙ z.0, sym w.number_is ∙ z.1)
 
 pub always_err : {A E : Type 0} (r : Result A E) (P : Type 0) → P → OnErr r P
 always_err (Ok a) P p = tt

@@ -3,14 +3,13 @@ use Rattle.std.specs.Prelude.{◌≡◌, ◌≤◌, ℕ, Bool, true, false, Some
 use Rattle.plain_cat.specs.declared.command.Cmd.{Cmd}
 use Rattle.plain_rules.specs.Lookups.{header_most}
 use Rattle.plain_rules.specs.Own.{next_command}
-use Rattle.vol_parts.specs.declared.geometry.Geometry.{Geometry}
 use Rattle.node_locks.specs.Held.{waits_at}
 use Rattle.op_law.specs.declared.need.Need.{Need}
 use Rattle.op_law.specs.declared.need.Need.TheVariants as need
 use Rattle.op_law.specs.Events.{space_of, HasNoSpace}
 use Rattle.op_law.specs.Needs.{IsNext}
-use Rattle.op_law.specs.Knows.{clusters_wanted, takes_space}
-use Rattle.plain_rules.specs.Laws.{makes_file as wants_number}
+use Rattle.op_law.specs.declared.seen.Seen.{Seen}
+use Rattle.op_law.specs.Knows.{clusters_wanted, takes_space, wants_number}
 use Rattle.core_space.specs.declared.run.Phase.{Phase}
 use Rattle.core_space.specs.declared.run.Phase.TheVariants as phase
 use Rattle.core_state.specs.Worlds.{NodeState, Plain, node_at}
@@ -67,11 +66,11 @@ NeedsNow w n next = (s : NodeState) (x : Cmd) → node_at w.nodes n ≡ Some s �
 abbrev pub LacksSpace : Plain → ℕ → Need → Type 0
 LacksSpace w n next = (s : NodeState) (clusters : ℕ) (number : Bool) → node_at w.nodes n ≡ Some s → next ≡ need.Space clusters number → serves s clusters number ≡ false
 
--- the command searches for so many clusters, and a number or none: for something
-pub record WantsSpace (g : Geometry) (x : Cmd) (clusters : ℕ) (number : Bool) : Type 0 where
+-- the command with this seen searches for so many clusters, and a number or none: for something
+pub record WantsSpace (seen : Seen) (x : Cmd) (clusters : ℕ) (number : Bool) : Type 0 where
   pub takes : takes_space x ≡ true
-  pub clusters_are : clusters_wanted g.cluster x ≡ clusters
-  pub number_is : wants_number x ≡ number
+  pub clusters_are : clusters_wanted seen.geometry.cluster x ≡ clusters
+  pub number_is : wants_number seen x ≡ number
   pub some : (clusters ≡ 0) × (number ≡ false) → ⊥
 
 -- the rules for space of a command are begun
@@ -84,7 +83,7 @@ is_searching other = true
 pub record IsSearching (s : NodeState) (x : Cmd) (clusters : ℕ) (number : Bool) : Type 0 where
   pub rules : is_searching s.run.phase ≡ true
   pub none : HasNoSpace (space_of s.seen)
-  pub wants : WantsSpace s.seen.geometry x clusters number
+  pub wants : WantsSpace s.seen x clusters number
 
 -- what a node searches for, its command needs
 abbrev pub SearchesAsNeeded : NodeState → Type 0

@@ -13,7 +13,7 @@ use Rattle.fx_dir.specs.Moves.{key}
 use Rattle.fx_dir.proofs.Cover.{each-imp}
 use Rattle.fx_dir.proofs.Finding.{went}
 use Rattle.fx_room.specs.Filling.{taken_in}
-use Rattle.fx_room.specs.Walk.{Walked, is_behind, taken_on, walked, read_in, blocks_of, IsBlockRead}
+use Rattle.fx_room.specs.Walk.{Walked, is_behind, taken_on, walked, read_in, blocks_alone, IsBlockRead}
 use Rattle.fx_room.proofs.Walks.{walked-more}
 
 -- ---- an entry
@@ -152,8 +152,8 @@ records-first feed w b h = by_records (records_in (length b) b) refl h where
 -- ---- blocks
 
 pub record BlocksLeft {A : Type 0} (feed : A → List RawEnt → A) (end now : A) (seen : List (ℕ × Block)) : Type 0 where
-  pub read : Each IsBlockRead (blocks_of seen)
-  pub same : feed now (all_entries (blocks_of seen)) ≡ end
+  pub read : Each IsBlockRead (blocks_alone seen)
+  pub same : feed now (all_entries (blocks_alone seen)) ≡ end
 
 pub blocks-here : {A : Type 0} (feed : A → List RawEnt → A) (end now : A) (seen : List (ℕ × Block)) (i : ℕ) (d : ℕ × Block) → i < length seen → BlocksLeft feed end now (drop i seen) → BlocksLeft feed end now (get_or seen i d ∷ drop (i + 1) seen)
 blocks-here feed end now seen i d lt left =
@@ -164,7 +164,7 @@ blocks-here feed end now seen i d lt left =
 pub blocks-passed : {A : Type 0} (feed : A → List RawEnt → A) (end now next : A) (x : ℕ × Block) (rest : List (ℕ × Block)) → BlocksLeft feed end now (x ∷ rest) → next ≡ feed now (entries_at x.1) → TakesInTurn feed → BlocksLeft feed end next rest
 blocks-passed feed end now next x rest left is turn = record {
   read = left.read.1;
-  same = ap (λ w. feed w (all_entries (blocks_of rest))) is ∙ sym (turn.more now (entries_at x.1) (all_entries (blocks_of rest))) ∙ left.same;
+  same = ap (λ w. feed w (all_entries (blocks_alone rest))) is ∙ sym (turn.more now (entries_at x.1) (all_entries (blocks_alone rest))) ∙ left.same;
 }
 
 pub none_behind : (seen : List (ℕ × Block)) (i : ℕ) → length seen ≤ i → drop i seen ≡ []
@@ -174,7 +174,7 @@ none_behind (x ∷ seen) zero le = absurd (omega arith)
 none_behind (x ∷ seen) (suc i) le = none_behind seen i (omega arith)
 
 pub blocks-none : {A : Type 0} (feed : A → List RawEnt → A) (end now : A) (seen : List (ℕ × Block)) (i : ℕ) → length seen ≤ i → BlocksLeft feed end now (drop i seen) → TakesInTurn feed → now ≡ end
-blocks-none feed end now seen i le left turn = sym (turn.none now) ∙ sym (ap (λ l. feed now (all_entries (blocks_of l))) (none_behind seen i le)) ∙ left.same
+blocks-none feed end now seen i le left turn = sym (turn.none now) ∙ sym (ap (λ l. feed now (all_entries (blocks_alone l))) (none_behind seen i le)) ∙ left.same
 
 -- ---- a directory
 

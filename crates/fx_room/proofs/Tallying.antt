@@ -15,7 +15,7 @@ use Rattle.fx_dir.proofs.Order.{bytes_refl}
 use Rattle.fx_dir.proofs.Wanted.{record-versions}
 use Rattle.fx_room.specs.Plenty.{bytes_of, longest_of, bytes_in, longest_in}
 use Rattle.fx_room.specs.Room.{has_room}
-use Rattle.fx_room.specs.Walk.{read_in, blocks_of, IsBlockRead}
+use Rattle.fx_room.specs.Walk.{read_in, blocks_alone, IsBlockRead}
 use Rattle.fx_room.proofs.Plenty.{own, bytes-more, longest-more, directory-plenty}
 use Rattle.fx_room.proofs.Streams.{TakesInTurn, RecordsLeft, none_behind, record-here, record-passed, records-none, version-step}
 
@@ -120,9 +120,9 @@ block-done all room longest rest long ends c =
 -- ---- blocks
 
 pub record BlocksCounted (all seen : List (ℕ × Block)) (bytes longest : ℕ) : Type 0 where
-  pub read : Each IsBlockRead (blocks_of seen)
-  pub few : min (bytes_in (blocks_of all)) (2 ^ 64 - 1) ≤ bytes + bytes_in (blocks_of seen)
-  pub names : longest_in (blocks_of all) ≤ max longest (longest_in (blocks_of seen))
+  pub read : Each IsBlockRead (blocks_alone seen)
+  pub few : min (bytes_in (blocks_alone all)) (2 ^ 64 - 1) ≤ bytes + bytes_in (blocks_alone seen)
+  pub names : longest_in (blocks_alone all) ≤ max longest (longest_in (blocks_alone seen))
 
 pub blocks-next : (all seen : List (ℕ × Block)) (bytes longest i : ℕ) (d : ℕ × Block) → i < length seen → BlocksCounted all (drop i seen) bytes longest → BlocksCounted all (get_or seen i d ∷ drop (i + 1) seen) bytes longest
 blocks-next all seen bytes longest i d lt c =
@@ -138,7 +138,7 @@ blocks-more all x rest bytes longest b n c few names =
     record { read = c.read.1; few = omega arith; names = omega arith }
 
 pub blocks-done : (all : List (ℕ × Block)) (bytes longest i : ℕ) → length all ≤ i → BlocksCounted all (drop i all) bytes longest
-    → (min (bytes_in (blocks_of all)) (2 ^ 64 - 1) ≤ bytes) × (longest_in (blocks_of all) ≤ longest)
+    → (min (bytes_in (blocks_alone all)) (2 ^ 64 - 1) ≤ bytes) × (longest_in (blocks_alone all) ≤ longest)
 blocks-done all bytes longest i le c =
     let none = subst (λ l. BlocksCounted all l bytes longest) (none_behind all i le) c in
     let f = none.few in

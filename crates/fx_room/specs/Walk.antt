@@ -1,7 +1,8 @@
 -- The entries of a directory's blocks, gone through as they stand there. One that was met before is passed over.
-use Rattle.std.specs.Prelude.{ℕ, Bool, true, List, [], ◌∷◌, Option, Some, None, IsSome, map, option_copied, option_map, unwrap_or, if◌then◌else◌}
+use Rattle.std.specs.Prelude.{ℕ, Bool, true, List, [], ◌∷◌, Option, Some, None, IsSome, option_copied, option_map, unwrap_or, if◌then◌else◌}
 use Rattle.std.specs.Borrow.{Bor}
 use Rattle.base_words.specs.Fields.{Block}
+pub use Rattle.base_words.specs.Fields.{blocks_alone}
 use Rattle.fx_dir.specs.declared.RawEnt.{RawEnt}
 use Rattle.fx_dir.specs.Entries.{before}
 use Rattle.fx_dir.specs.Moves.{key}
@@ -37,10 +38,6 @@ walked e w (x ∷ xs) = walked e (taken_on e w x) xs
 -- those that are read
 abbrev pub read_in : Option (List RawEnt) → List RawEnt
 read_in o = unwrap_or o []
-
--- blocks with their LBNs
-abbrev pub blocks_of : List (ℕ × Block) → List Block
-blocks_of seen = map (λ s. s.1) seen
 
 -- a block is a list of records in order
 abbrev pub IsBlockRead : Block → Type 0

@@ -29,7 +29,7 @@ ghost use Rattle.fx_dir.specs.Records.{record_length, head_length, name_in, is_e
 ghost use Rattle.fx_dir.specs.Directory.{directory, entries_at, all_entries};
 ghost use Rattle.fx_dir.specs.Moves.{key};
 ghost use Rattle.fx_room.specs.Filling.{filled_of, in_next, pushed, is_first, tried_of, taken_in};
-ghost use Rattle.fx_room.specs.Walk.{walked_of, last_met, is_behind, taken_on, walked, read_in, blocks_of, IsBlockRead};
+ghost use Rattle.fx_room.specs.Walk.{walked_of, last_met, is_behind, taken_on, walked, read_in, blocks_alone, IsBlockRead};
 ghost use Rattle.fx_room.specs.Plenty.{bytes_of, longest_of, bytes_in, longest_in};
 ghost use Rattle.fx_room.specs.Room.{has_room};
 
@@ -306,8 +306,8 @@ fn block_taken<'a>(w: Walk<'a>, name: &'a [u8], ver: u16, b: &'a Block) -> Walk<
 
 /// The entries of blocks.
 fn blocks_taken<'a>(w: Walk<'a>, name: &'a [u8], ver: u16, seen: &'a [(u32, Block)]) -> Walk<'a>
-    requires { Each IsBlockRead (blocks_of seen.now) }
-    ensures { walked_of result ≡ walked (key name.now ver) (walked_of w.entry) (all_entries (blocks_of seen.now)) }
+    requires { Each IsBlockRead (blocks_alone seen.now) }
+    ensures { walked_of result ≡ walked (key name.now ver) (walked_of w.entry) (all_entries (blocks_alone seen.now)) }
 {
     let mut now = w;
     for (_, block) in seen {
@@ -336,9 +336,9 @@ fn block_counted(b: &Block) -> Tally
 
 /// The bytes of the records of all blocks, as far as 64 bits go, and the longest of their names.
 fn blocks_counted(seen: &[(u32, Block)]) -> Tally
-    requires { Each IsBlockRead (blocks_of seen.now) }
-    ensures bytes { min (bytes_in (blocks_of seen.now)) (2 ^ 64 - 1) ≤ result.bytes }
-    ensures longest { longest_in (blocks_of seen.now) ≤ result.longest }
+    requires { Each IsBlockRead (blocks_alone seen.now) }
+    ensures bytes { min (bytes_in (blocks_alone seen.now)) (2 ^ 64 - 1) ≤ result.bytes }
+    ensures longest { longest_in (blocks_alone seen.now) ≤ result.longest }
 {
     let mut bytes = 0usize;
     let mut longest = 0usize;
@@ -356,8 +356,8 @@ fn blocks_counted(seen: &[(u32, Block)]) -> Tally
 /// no more than the records that they stand in, and with the new one twice `most` at most is added: for its own record, and for one
 /// that the entry behind it begins.
 fn has_plenty(seen: &[(u32, Block)], name: &[u8], k: u32) -> bool
-    requires { IsOk (directory (blocks_of seen.now)) }
-    ensures { result ≡ true → (ver : ℕ) → ForOk (directory (blocks_of seen.now)) (λ es. has_room k (key name.now ver) es ≡ true) }
+    requires { IsOk (directory (blocks_alone seen.now)) }
+    ensures { result ≡ true → (ver : ℕ) → ForOk (directory (blocks_alone seen.now)) (λ es. has_room k (key name.now ver) es ≡ true) }
 {
     let all = blocks_counted(seen);
     let longest = all.longest.max(name.len());
@@ -371,8 +371,8 @@ fn has_plenty(seen: &[(u32, Block)], name: &[u8], k: u32) -> bool
 /// Whether the entries of a directory, in its blocks with their LBNs, and a new one of this name and version pack into k blocks.
 /// The blocks are read without a fault. It takes no memory.
 pub fn has_room<'a>(seen: &'a [(u32, Block)], name: &'a [u8], ver: u16, k: u32) -> bool
-    requires { IsOk (directory (blocks_of seen.now)) }
-    ensures { ForOk (directory (blocks_of seen.now)) (λ es. result ≡ has_room k (key name.now ver) es) }
+    requires { IsOk (directory (blocks_alone seen.now)) }
+    ensures { ForOk (directory (blocks_alone seen.now)) (λ es. result ≡ has_room k (key name.now ver) es) }
 {
     if k == 0 {
         return false;

@@ -19,7 +19,7 @@ use Rattle.plain_texts.specs.Reports.{entry_line, line_text}
 use Rattle.plain_rules.specs.declared.outcome.Outcome.{Outcome}
 use Rattle.plain_rules.specs.Accounts.{Accounted}
 use Rattle.plain_rules.specs.Lookups.{slot_at, last_seq}
-use Rattle.plain_rules.specs.Answers.{outcome, IsPick}
+use Rattle.plain_rules.specs.Answers.{outcome, IsPick, takes_space}
 use Rattle.plain_rules.specs.Checks.{shown_number}
 use Rattle.plain_rules.proofs.Standing.{stands_free}
 use Rattle.plain_rules.proofs.Picks.{pick_is_free}
@@ -31,11 +31,11 @@ use Rattle.log_check.specs.Commands.{IsSpeaking}
 use Rattle.log_check.specs.Lines.{body_of, reply_of, bracketed, shown_of}
 use Rattle.log_check.proofs.Drafted.{part-zero, short-back, answer-reply}
 use Rattle.log_check.specs.declared.steps.Step.TheVariants as step
-use Rattle.log_check.specs.Steps.{BeginsWith, IsNext, IsAnswerStep, may_take_number, IsChosen}
+use Rattle.log_check.specs.Steps.{BeginsWith, IsNext, IsAnswerStep, IsChosen}
 use Rattle.log_check.proofs.Told.{body-line, done-line, line-open}
 
 -- a command that takes no number is answered alike whatever number is handed in
-any_choice : (c : Cat) (node : ℕ) (x : Cmd) (m k : Option ℕ) → may_take_number x ≡ false → outcome c node x m ≡ outcome c node x k
+any_choice : (c : Cat) (node : ℕ) (x : Cmd) (m k : Option ℕ) → takes_space x ≡ false → outcome c node x m ≡ outcome c node x k
 unfolding outcome
 any_choice c node (cmd.Lookup x0 x1 x2 x3) m k h = refl
 any_choice c node (cmd.List x0) m k h = refl

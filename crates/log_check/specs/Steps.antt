@@ -1,5 +1,5 @@
 -- What the judge says of a line, and of a report.
-use Rattle.std.specs.Prelude.{◌≡◌, ◌==◌, ◌&&◌, ◌≤◌, ◌<◌, ◌++◌, ◌⊎◌, ℕ, Bool, true, false, List, [], ◌∷◌, Option, Some, drop, length, decimal, cond}
+use Rattle.std.specs.Prelude.{◌≡◌, ◌==◌, ◌&&◌, ◌≤◌, ◌<◌, ◌++◌, ◌⊎◌, ℕ, Bool, false, List, [], ◌∷◌, Option, Some, drop, length, decimal, cond}
 use Rattle.plain_cat.specs.Spared.{Spared}
 use Rattle.plain_cat.specs.declared.command.Cmd.{Cmd}
 use Rattle.plain_cat.specs.declared.command.Cmd.TheVariants as cmd
@@ -11,7 +11,7 @@ use Rattle.plain_cat.specs.declared.cat.Cat.{Cat}
 use Rattle.plain_texts.specs.Reports.{line_text}
 use Rattle.plain_texts.specs.Replies.{reply_text}
 use Rattle.plain_rules.specs.Accounts.{Accounted}
-use Rattle.plain_rules.specs.Answers.{IsPick}
+use Rattle.plain_rules.specs.Answers.{IsPick, takes_space}
 use Rattle.plain_rules.specs.Checks.{shown_number, is_quiet, IsLegal}
 use Rattle.log_check.specs.declared.drafts.Death.{Death}
 use Rattle.log_check.specs.Lines.{died_text}
@@ -68,16 +68,9 @@ IsDeathStep i c text death (step.Next d used answered died) = IsNext i c text d 
 IsDeathStep i c text death step.Untold = IsUntold i text
 IsDeathStep i c text death step.Stop = IsNoDeath i c text death
 
--- CREATE and MKDIR take a number for a new file, and EXTEND may take one for a new header
-abbrev pub may_take_number : Cmd → Bool
-may_take_number (cmd.Create reg dir name ver blocks owner) = true
-may_take_number (cmd.MkDir reg dir name owner) = true
-may_take_number (cmd.Extend file blocks) = true
-may_take_number other = false
-
 -- the number that a command takes is right for each reply that the text may have; one that takes none is answered without
 abbrev pub IsChosen : Cat → Cmd → List ℕ → Option ℕ → Type 0
-IsChosen c x text new = (may_take_number x ≡ false) ⊎ (IsPick c new × (
+IsChosen c x text new = (takes_space x ≡ false) ⊎ (IsPick c new × (
     (r : Reply) (n : ℕ) (rest : List ℕ) → text ≡ reply_text r ++ (10 ∷ rest) → shown_number r ≡ Some n → IsPick c (Some n) → new ≡ Some n))
 
 -- what is said of line i

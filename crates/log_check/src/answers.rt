@@ -1,18 +1,18 @@
 ghost use Rattle.std.specs.Prelude.{◌≡◌, ◌++◌, ◌∷◌, ℕ, List, Some};
 ghost use Rattle.plain_cat.specs.declared.reply.Reply.{Reply};
 ghost use Rattle.plain_rules.specs.Accounts.{Accounted};
-ghost use Rattle.plain_rules.specs.Answers.{IsPick};
+ghost use Rattle.plain_rules.specs.Answers.{IsPick, takes_space};
 ghost use Rattle.plain_rules.specs.Checks.{shown_number};
 ghost use Rattle.plain_texts.specs.Replies.{reply_text};
-ghost use Rattle.log_check.specs.Steps.{may_take_number, IsChosen};
+ghost use Rattle.log_check.specs.Steps.{IsChosen};
 
 use crate::shown_number;
 use plain_cat::{Cat, Cmd};
 use plain_vol::{is_free_number, pick};
 
 // Whether a command may take a number, for a new file or a new header.
-fn may_take_number(cmd: &Cmd) -> bool
-    ensures { result ≡ may_take_number cmd.now }
+fn takes_space(cmd: &Cmd) -> bool
+    ensures { result ≡ takes_space cmd.now }
 {
     matches!(
         cmd,
@@ -40,7 +40,7 @@ pub(crate) fn choose(cat: &Cat, cmd: &Cmd, reply: &[u8]) -> Option<u32>
     requires { Accounted cat.now }
     ensures { IsChosen cat.now cmd.now reply.now result }
 {
-    if may_take_number(cmd) {
+    if takes_space(cmd) {
         shown_or_first(cat, reply)
     } else {
         None

@@ -8,7 +8,7 @@ use Rattle.base_words.specs.Fields.{Block}
 use Rattle.fx_header.specs.declared.slot.Hdr.{Hdr}
 use Rattle.fx_header.specs.declared.slot.Slot.TheVariants as head
 use Rattle.lock_db.specs.declared.name.LockName.{LockName}
-use Rattle.lock_db.specs.declared.name.LockName.TheVariants.{S, Q, V}
+use Rattle.lock_db.specs.declared.name.LockName.TheVariants.{Q, V}
 use Rattle.plain_cat.specs.InForm.{is_eighth}
 use Rattle.plain_cat.specs.declared.mode.Mode.{Mode}
 use Rattle.plain_cat.specs.declared.mode.Mode.TheVariants.{NL, CR, CW, PR, PW, EX}
@@ -43,18 +43,18 @@ use Rattle.op_law.specs.Fits.{things}
 use Rattle.op_law.specs.Freeing.{blocks_for, all_clusters}
 use Rattle.op_law.specs.Knows.{is_granted, knows}
 use Rattle.plain_rules.specs.Opens.{goes_with, is_held_open}
-use Rattle.op_law.specs.Laws.{planned, under_way}
+use Rattle.op_law.specs.Laws.{held_in, planned, under_way}
 use Rattle.op_law.specs.Writing.{empty_handed}
 use Rattle.op_law.proofs.Asking.{IsDoneBy}
 use Rattle.op_law.proofs.Doing.{AreDone}
-use Rattle.vol_spell.proofs.HeadSlots.{file_blocks, file_told_at}
+use Rattle.vol_spell.proofs.HeadSlots.{file_told_at}
 use Rattle.op_steps.specs.Chained.{Chain, StandsOn}
 use Rattle.op_steps.specs.Files.{file_in}
-use Rattle.vol_spell.specs.Files.{IsFileThere}
+use Rattle.vol_spell.specs.Files.{IsFileThere, blocks_told}
 use Rattle.op_freeing.specs.BitmapWrites.{storage_places}
 use Rattle.op_freeing.proofs.Endings.{held_keeps_out}
-use Rattle.op_freeing.specs.GoneWrites.{space_at, gone_writes, gone}
-use Rattle.op_freeing.proofs.GoneSteps.{gone_steps, gone_guards, gone_leaves, gone_leaves_few, gone_ends}
+use Rattle.op_freeing.specs.GoneWrites.{space_at, gone_writes, HaveLocks, gone}
+use Rattle.op_freeing.proofs.GoneSteps.{gone_steps, gone_guards, gone_leaves, gone_fills, gone_leaves_few, gone_ends}
 use Rattle.op_access.proofs.Opens.{HasOpen, alone_is}
 use Rattle.op_access.proofs.CloseOutcomes.{shut, stays_answer, kept_answer, gone_answer, stands_freed, stands_gone}
 use Rattle.op_access.proofs.CloseWalks.{take_none}
@@ -80,10 +80,10 @@ module _ (node : ℕ) (seen : Seen) (bs : List Block) (own : Owners) (c : Cat) (
   n = p.file.num
 
   abbrev body : List Block
-  body = file_blocks bs (header_block seen.geometry bs p.file.num)
+  body = blocks_told seen.geometry bs p.file.num
 
   abbrev f : File
-  f = file_of seen.geometry.cluster p.file.num h (file_blocks bs (header_block seen.geometry bs p.file.num))
+  f = file_of seen.geometry.cluster p.file.num h (blocks_told seen.geometry bs p.file.num)
 
   -- the catalogue with the channel closed
   abbrev closed : Cat
@@ -99,6 +99,7 @@ module _ (node : ℕ) (seen : Seen) (bs : List Block) (own : Owners) (c : Cat) (
   only_closed answer held = record {
     named = λ w t. absurd t;
     dirs = λ w t. absurd t;
+    slots = λ w t. absurd t;
     kept_out = λ w t. absurd t;
     steps = (c, stands_first c node (Some x), s, subst (λ t. Outs node own t stock) (sym given) outs, closed.opens, answer);
   }
@@ -108,25 +109,11 @@ module _ (node : ℕ) (seen : Seen) (bs : List Block) (own : Owners) (c : Cat) (
 
   -- ---- the file goes with it
 
-  module _ (marked : h.marked ≡ true) where
+  -- these locks are held: those of all headers of the file, Q and V
+  module _ (marked : h.marked ≡ true) (held : List (LockName × Mode)) (all : HaveLocks seen.geometry (file_in seen.geometry bs p.file.num h) (held_in PW held)) (in_q : Has (held_in PW held) Q)
+      (in_v : Has (held_in PW held) V) where
     abbrev ws : List PlanWrite
     ws = gone_writes seen.geometry bs p.file.num h
-
-    -- the locks that the plan has
-    abbrev held : List (LockName × Mode)
-    held = (S p.file.num, PW) ∷ (Q, PW) ∷ (V, PW) ∷ []
-
-    abbrev names : List LockName
-    names = S p.file.num ∷ Q ∷ V ∷ []
-
-    in_file : Has names (S p.file.num)
-    in_file = inl refl
-
-    in_q : Has names Q
-    in_q = inr (inl refl)
-
-    in_v : Has names V
-    in_v = inr (inr (inl refl))
 
     -- another channel has it open
     kept_done : is_open closed p.file.num ≡ true → AreDone (cmd.CloseFile chan) node seen bs own c stock held [] (reply.Closed false)
@@ -138,7 +125,7 @@ module _ (node : ℕ) (seen : Seen) (bs : List Block) (own : Owners) (c : Cat) (
       last_cat = gone seen.geometry (shut c node chan) p.file.num f
 
       abbrev k : Chain
-      k = record { geometry = seen.geometry; node = node; cmd = Some (cmd.CloseFile chan); locks = names; cat = c; stock = stock }
+      k = record { geometry = seen.geometry; node = node; cmd = Some (cmd.CloseFile chan); locks = held_in PW held; cat = c; stock = stock }
 
       abbrev end : End
       end = Replied seen.geometry node (under_way (cmd.CloseFile chan) seen ws (knows node (cmd.CloseFile chan) seen)) (cmd.CloseFile chan) (reply.Closed true) c stock
@@ -173,10 +160,11 @@ module _ (node : ℕ) (seen : Seen) (bs : List Block) (own : Owners) (c : Cat) (
 
       gone_done : AreDone (cmd.CloseFile chan) node seen bs own c stock held ws (reply.Closed true)
       gone_done = record {
-        named = gone_guards g p.file.num h c bs own node names s number in_file in_q in_v;
-        dirs = gone_leaves g p.file.num h c bs own s number reads;
-        kept_out = held_keeps_out (things seen.clusters seen.number) names ws in_v (gone_leaves_few g bs p.file.num h);
-        steps = gone_steps end k p.file.num h body closed bs own on there in_file in_q in_v free_stage last_stage finish;
+        named = gone_guards g p.file.num h f closed bs own node (held_in PW held) on.spelt there all in_q in_v;
+        dirs = gone_leaves g p.file.num h f closed bs own on.spelt there;
+        slots = gone_fills g p.file.num h f closed bs own (things seen.clusters seen.number) on.spelt there;
+        kept_out = held_keeps_out (things seen.clusters seen.number) (held_in PW held) ws in_v (gone_leaves_few g p.file.num h f closed bs own on.spelt there);
+        steps = gone_steps end k p.file.num h body closed bs own on there all in_q in_v free_stage last_stage finish;
       }
 
     -- ---- by the mode of the channel

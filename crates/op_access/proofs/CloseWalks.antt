@@ -14,6 +14,7 @@ use Rattle.plain_cat.specs.declared.reply.Reply.TheVariants as reply
 use Rattle.plain_cat.specs.declared.reply.Refusal.{Refusal}
 use Rattle.plain_cat.specs.declared.reply.Refusal.TheVariants as refusal
 use Rattle.base_words.specs.Lists.{Has}
+use Rattle.plain_rules.specs.Lookups.{extra}
 use Rattle.vol_spell.specs.Owners.{Things, nothing}
 use Rattle.vol_parts.specs.declared.geometry.Geometry.{Geometry}
 use Rattle.vol_parts.specs.declared.geometry.Part.TheVariants.{Storage, IndexBitmap}
@@ -25,14 +26,17 @@ use Rattle.op_law.specs.declared.seen.Chan.{Chan}
 use Rattle.op_law.specs.Channels.{close_plan, close_in, close_on, close_events}
 use Rattle.op_law.specs.Events.{Events, Take, Look, Make, Space, HasNoSpace, HasNoSearch}
 use Rattle.op_law.specs.Fits.{things}
-use Rattle.op_law.specs.Freeing.{SeenSpace, blocks_for, all_clusters, through_space, freeing_writes}
+use Rattle.op_law.specs.Freeing.{SeenSpace, blocks_for, all_clusters, freeing_writes}
+use Rattle.op_law.specs.Headers.{through_chain}
 use Rattle.op_law.specs.Laws.{planned, held_in}
 use Rattle.op_law.specs.Needs.{events_of}
 use Rattle.op_law.specs.Refusing.{SeenFile, seen_file, used_in, if_file}
 use Rattle.op_law.specs.Rows.{is_number, look_all, answers, refuses}
 use Rattle.op_law.proofs.Asking.{EveryEnd, IsShapedBy}
 use Rattle.op_law.proofs.Ends.{EndsBy, LeavesNothing, nothing_given}
+use Rattle.op_law.proofs.Links.{held_with, links_held_so}
 use Rattle.op_freeing.proofs.GoneSteps.{gone_ends}
+use Rattle.op_access.specs.Seeing.{file_goes}
 
 pub take_none : (ws : List PlanWrite) → take 0 ws ≡ []
 take_none [] = refl
@@ -56,19 +60,19 @@ module _ (chan : ℕ) where
     all_so lock [] next held so = so [] refl
     all_so lock (l ∷ ls) next held so = looks lock l (λ b. look_all lock ls (λ bs. next (b ∷ bs))) held (λ b. all_so lock ls (λ bs. next (b ∷ bs)) held (λ bs e. so (b ∷ bs) (omega arith)))
 
+    space_so : (m : Mode) (f : SeenFile) (held : Held) → Has (held_in PW held) (S f.num) → T (file_goes g chan m f) held
+    space_so m f held has =
+        let ks = blocks_for g (all_clusters g f) in
+        let with_q = held ++ (Q, PW) ∷ [] in
+        let last = with_q ++ (V, PW) ∷ [] in
+        takes Q PW _ held (all_so Q (quota_places g) _ with_q (λ quota q.
+        takes V PW _ with_q (looks V (place_of g IndexBitmap) _ last (λ index.
+        all_so V (map (λ k. place_of g (Storage k)) ks) _ last (λ storage len.
+        whole m f (record { quota = quota; index = index; storage = storage }) last (len ∙ length-map ks (λ k. place_of g (Storage k)))
+        (held_with PW with_q ((V, PW) ∷ []) (S f.num) (held_with PW held ((Q, PW) ∷ []) (S f.num) has)))))))
+
     abbrev first : ℕ → Held
     first n = (S n, PW) ∷ []
-
-    abbrev last : ℕ → Held
-    last n = (S n, PW) ∷ (Q, PW) ∷ (V, PW) ∷ []
-
-    space_so : (m : Mode) (f : SeenFile) → T (through_space g f (λ s. Make (close_plan f.num chan m (freeing_writes g f s)))) (first f.num)
-    space_so m f =
-        let ks = blocks_for g (all_clusters g f) in
-        takes Q PW _ (first f.num) (all_so Q (quota_places g) _ ((S f.num, PW) ∷ (Q, PW) ∷ []) (λ quota q.
-        takes V PW _ ((S f.num, PW) ∷ (Q, PW) ∷ []) (looks V (place_of g IndexBitmap) _ (last f.num) (λ index.
-        all_so V (map (λ k. place_of g (Storage k)) ks) _ (last f.num) (λ storage len.
-        whole m f (record { quota = quota; index = index; storage = storage }) (last f.num) (len ∙ length-map ks (λ k. place_of g (Storage k))) (inl refl))))))
 
     file_so : (m : Mode) (n : ℕ) (b : Block) (o : Option Hdr) → T (if_file (answers (reply.Closed false)) (close_in g chan m) (option_map (seen_file g n b) o)) (first n)
     file_so m n b None = stays (first n)
@@ -76,8 +80,10 @@ module _ (chan : ℕ) where
       f : SeenFile
       f = seen_file g n b h
 
-      by_marked : (t : Bool) → T (cond t (through_space g f (λ s. Make (close_plan n chan m (freeing_writes g f s)))) (answers (reply.Closed false))) (first n)
-      by_marked true = space_so m f
+      by_marked : (t : Bool) → T (cond t (through_chain g PW f (file_goes g chan m)) (answers (reply.Closed false))) (first n)
+      by_marked true =
+          links_held_so T takes looks g PW (extra f.file.clusters) b f (file_goes g chan m) (first n)
+          (λ rest more len. space_so m (record f { rest = rest }) (first n ++ more) (held_with PW (first n) more (S n) (inl refl)))
       by_marked false = stays (first n)
 
     on_so : (channel : Option Chan) → T (close_on g channel chan) []

@@ -105,11 +105,11 @@ module _ (chan : ℕ) (file : Fid) (mode : Mode) where
       (λ none. (nothing_given space none, nothing_given space none)) b (live_in file.seq b))
 
   brief_on : (node : ℕ) (seen : Seen) (bs : List Block) (own : Owners) (c : Cat) → IsSeenOn node (cmd.OpenFile chan file mode) seen bs own c → (channel : Option Chan)
-      → BriefBy bs (space_of seen) 120 (open_on seen.geometry channel chan file mode) 4 70
+      → BriefBy bs (space_of seen) 120 (open_on seen.geometry channel chan file mode) 19 70
   brief_on node seen bs own c on (Some p) = omega arith
-  brief_on node seen bs own c on None = live_brief bs (space_of seen) 120 seen.geometry own c on.spelt file PW 4 70 (omega arith) (open_in chan mode) (omega arith)
+  brief_on node seen bs own c on None = live_brief bs (space_of seen) 120 seen.geometry own c on.spelt file PW 19 70 (omega arith) (open_in chan mode) (omega arith)
       (λ h is lives. unless_brief bs (space_of seen) 120 (first_refusal ((is_kept file.num (seen_file seen.geometry file.num (file_header bs seen.geometry file) h).file, refusal.NoPriv) ∷ []))
-      (asks seen.geometry None chan file mode) 3 69 (λ may. omega arith))
+      (asks seen.geometry None chan file mode) 18 69 (λ may. omega arith))
 
 -- ---- its answer
 
@@ -143,7 +143,7 @@ module _ (node : ℕ) (seen : Seen) (bs : List Block) (own : Owners) (c : Cat) (
   answered_so : (r : Reply) (opens : List (Option Open)) → open_outcome c node chan file mode ≡ record { reply = r; after = record c { opens = opens } } → (held : List (LockName × Mode))
       → AreDone x node seen bs own c stock held [] r
   unfolding outcome
-  answered_so r opens e held = let p = pick_exists c in record { named = λ w t. absurd t; dirs = λ w t. absurd t; kept_out = λ w t. absurd t; steps = (c, stands_first c node (Some x), s, outs, opens, (p.0, p.1, e)) }
+  answered_so r opens e held = let p = pick_exists c in record { named = λ w t. absurd t; dirs = λ w t. absurd t; slots = λ w t. absurd t; kept_out = λ w t. absurd t; steps = (c, stands_first c node (Some x), s, outs, opens, (p.0, p.1, e)) }
 
   refused_so : (r : Refusal) → open_outcome c node chan file mode ≡ refused c r → (held : List (LockName × Mode)) → AreDone x node seen bs own c stock held [] (reply.Refused r)
   refused_so r e held = answered_so (reply.Refused r) c.opens e held

@@ -5,6 +5,7 @@ use Rattle.std.specs.List.{list_any, list_all}
 use Rattle.std.proofs.lemmas.Bool.{and_parts}
 use Rattle.std.proofs.lemmas.Bool.Decides.{nat_tests}
 use Rattle.plain_cat.specs.InForm.{is_eighth}
+use Rattle.plain_cat.specs.declared.command.Cmd.TheVariants as cmd
 use Rattle.plain_cat.specs.Modes.{rank}
 use Rattle.plain_cat.specs.declared.mode.Mode.{Mode}
 use Rattle.plain_cat.specs.declared.mode.Mode.TheVariants.{NL, CR, CW, PR, PW, EX}
@@ -15,7 +16,8 @@ use Rattle.plain_rules.specs.Lookups.{in_use, channel_at, place, is_open}
 use Rattle.plain_rules.specs.Changes.{with_channel}
 use Rattle.plain_rules.specs.Answers.{conflicts}
 use Rattle.op_law.specs.declared.seen.Chan.{Chan}
-use Rattle.op_law.specs.Knows.{is_open_as}
+use Rattle.op_law.specs.declared.seen.Seen.{Seen}
+use Rattle.op_law.specs.Knows.{is_open_as, has_channel, is_new_number, is_short, usages_fit, opens_hold, wanted, knows}
 use Rattle.plain_rules.specs.Opens.{is_plain_file}
 use Rattle.plain_rules.specs.Opens.{others_open}
 use Rattle.plain_rules.specs.Opens.{goes_with}
@@ -73,6 +75,15 @@ module _ (c : Cat) (node chan : ℕ) (p : Chan) where
 
   pub has_open : is_open_as c node chan p (channel_at c node chan) ≡ true → HasOpen c node chan p
   has_open = by_open (channel_at c node chan) refl
+
+-- what a CLOSE knows of its channel
+pub channel_known : (chan node : ℕ) (seen : Seen) (c : Cat) → knows node (cmd.CloseFile chan) seen c ≡ true → has_channel c node (Some chan) seen.channel ≡ true
+channel_known chan node seen c known =
+    let x = cmd.CloseFile chan in
+    (and_parts (has_channel c node (Some chan) seen.channel) (is_new_number seen.number && (is_short c (wanted seen x) seen.short && (usages_fit c x && opens_hold c x))) known).0
+
+pub known_open : (chan node : ℕ) (seen : Seen) (c : Cat) → knows node (cmd.CloseFile chan) seen c ≡ true → (p : Chan) → seen.channel ≡ Some p → HasOpen c node chan p
+known_open chan node seen c known p is = has_open c node chan p (ap (has_channel c node (Some chan)) (sym is) ∙ channel_known chan node seen c known)
 
 -- ---- whether an ask is granted
 

@@ -1,9 +1,10 @@
 //! What a CLOSE needs next.
 
-ghost use Rattle.std.specs.Prelude.{◌≡◌, ◌≤◌, false, option_map, IfOk};
+ghost use Rattle.std.specs.Prelude.{◌≡◌, ◌≤◌, ◌/◌, true, false, [], option_map, IfOk};
 ghost use Rattle.plain_cat.specs.declared.command.Cmd.TheVariants as cmd;
 ghost use Rattle.plain_cat.specs.declared.mode.Mode.TheVariants as mode;
 ghost use Rattle.plain_cat.specs.declared.reply.Reply.TheVariants as reply;
+ghost use Rattle.plain_rules.specs.Lookups.{extra};
 ghost use Rattle.vol_parts.specs.Parts.{IsGeometry};
 ghost use Rattle.op_law.specs.Events.{Space as Given, next_of};
 ghost use Rattle.op_law.specs.Rows.{answers};
@@ -13,9 +14,12 @@ ghost use Rattle.op_law.specs.Readable.{AreInside, HeadIsInside};
 ghost use Rattle.op_law.specs.Freeing.{all_clusters, freeing_writes};
 ghost use Rattle.op_law.specs.Channels.{close_plan, close_in, close_events};
 ghost use Rattle.op_law.specs.Fits.{FitsSeen};
+ghost use Rattle.op_steps.specs.Chains.{AreHeaders};
 ghost use Rattle.op_steps.specs.Seeing.{file_seen, IsReadable};
 ghost use Rattle.op_freeing.specs.Looking.{space_seen, IsWhole};
+ghost use Rattle.op_freeing.specs.Seeing.{HasNumbers};
 ghost use Rattle.op_access.specs.Asks.{ask_by};
+ghost use Rattle.op_access.specs.Seeing.{IsFollowed, HeadIsFollowed, file_goes};
 
 use base_words::Block;
 use op_freeing::{Space, SpaceSeen, all_clusters, push_gone, space_seen};
@@ -23,7 +27,7 @@ use op_law::{
     Ask, Chan, Looked, Need, NoMemory, Plan, Rest, Seen, Writes, answered, header_seen, is_number,
     refused,
 };
-use op_steps::{FileSeen, file_used};
+use op_steps::{Chained, FileSeen, chain_seen, file_used};
 use plain_cat::{Clusters, Mode, Refusal, Reply};
 use std::alloc::Global;
 use vol_parts::Geometry;
@@ -55,7 +59,7 @@ fn closed(
     space: &SpaceSeen<'_>,
 ) -> Result<Plan, NoMemory>
     requires geometry { IsGeometry g.now }
-    requires number { f.now.num ≤ g.now.files }
+    requires numbers { HasNumbers g.now f.now }
     requires readable { IsReadable f.now }
     requires clusters { clusters.now ≡ all_clusters g.now (file_seen g.now f.now) }
     requires whole { IsWhole g.now clusters.now space.now }
@@ -70,7 +74,31 @@ fn closed(
     })
 }
 
-// Behind the header of the file.
+// Behind all headers of the file.
+fn whole_looked(
+    alloc: Global,
+    g: &Geometry,
+    chan: u8,
+    mode: Mode,
+    f: &FileSeen<'_>,
+    rest: Rest<'_>,
+) -> Result<Need, NoMemory>
+    requires geometry { IsGeometry g.now }
+    requires numbers { HasNumbers g.now f.now }
+    requires readable { IsReadable f.now }
+    ensures { IfOk result (λ need. (given : Given) → goes_on_by (file_goes g.now chan mode (file_seen g.now f.now)) rest.entry given ≡ need) }
+{
+    let clusters = all_clusters(alloc, g, f)?;
+    match space_seen(alloc, g, &clusters, rest)? {
+        Space::Next(need) => Ok(need),
+        Space::All(space) => {
+            let plan = closed(alloc, g, chan, mode, f, &clusters, &space)?;
+            Ok(Need::Ready(plan))
+        }
+    }
+}
+
+// Behind the first header of the file.
 fn file_looked(
     alloc: Global,
     g: &Geometry,
@@ -81,19 +109,17 @@ fn file_looked(
 ) -> Result<Need, NoMemory>
     requires geometry { IsGeometry g.now }
     requires number { f.now.num ≤ g.now.files }
+    requires alone { f.now.rest.now ≡ [] }
     requires readable { IsReadable f.now }
+    requires followed { f.now.fields.marked ≡ true → AreHeaders g.now (extra (f.now.fields.blocks / g.now.cluster)) f.now.fields f.now.head.now rest.blocks.now }
     ensures { IfOk result (λ need. (given : Given) → goes_on_by (close_in g.now chan mode (file_seen g.now f.now)) rest.entry given ≡ need) }
 {
     if !f.fields.marked {
         return Ok(answered(alloc, Reply::Closed { gone: false }));
     }
-    let clusters = all_clusters(alloc, g, f)?;
-    match space_seen(alloc, g, &clusters, rest)? {
-        Space::Next(need) => Ok(need),
-        Space::All(space) => {
-            let plan = closed(alloc, g, chan, mode, f, &clusters, &space)?;
-            Ok(Need::Ready(plan))
-        }
+    match chain_seen(g, Mode::PW, f, rest) {
+        Chained::Next(need) => Ok(need),
+        Chained::File(whole, behind) => whole_looked(alloc, g, chan, mode, &whole, behind),
     }
 }
 
@@ -109,6 +135,7 @@ fn header_looked(
     requires geometry { IsGeometry g.now }
     requires number { channel.file.num ≤ g.now.files }
     requires inside { AreInside head.now }
+    requires followed { IsFollowed g.now channel.file.seq head.now rest.blocks.now }
     ensures { IfOk result (λ need. (given : Given) → goes_on_by (if_file (answers (reply.Closed false)) (close_in g.now chan channel.mode) (option_map (seen_file g.now channel.file.num head.now) (used_in channel.file.seq head.now))) rest.entry given ≡ need) }
 {
     match file_used(channel.file, head) {
@@ -127,6 +154,7 @@ fn open_looked(
 ) -> Result<Need, NoMemory>
     requires geometry { IsGeometry g.now }
     requires inside { HeadIsInside rest.blocks.now }
+    requires followed { HeadIsFollowed g.now channel.file.seq rest.blocks.now }
     ensures { IfOk result (λ need. (given : Given) → goes_on_by (through_open g.now channel.file mode.PW (answers (reply.Closed false)) (close_in g.now chan channel.mode)) rest.entry given ≡ need) }
 {
     if !is_number(g, channel.file) {

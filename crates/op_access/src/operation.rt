@@ -8,8 +8,8 @@ use std::alloc::Global;
 use std::marker::Model;
 
 /// An OPEN or a CLOSE under way. Both need the file's lock in PW and its header. OPEN then asks for the lock of who has the file open,
-/// in its mode. CLOSE of a file that is marked for delete needs the quota file and the bitmaps besides, and asks whether no other
-/// channel has the file open, unless its own mode says so.
+/// in its mode. CLOSE of a file that is marked for delete needs the file's other headers, the quota file and the bitmaps besides,
+/// and asks whether no other channel has the file open, unless its own mode says so.
 #[derive(Drop)]
 pub struct OpAccess {
     cmd: Cmd,

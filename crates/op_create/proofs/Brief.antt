@@ -75,22 +75,22 @@ module _ (g : Geometry) (bs : List Block) (own : Owners) (c : Cat) (s : Spells g
     new = to_make m (entries_of d)
 
     by_space : (cs : List ℕ) (n : Option ℕ) (short : Option Refusal) → has_space m.file.clusters true (record { clusters = cs; number = n; short = short }) ≡ true
-        → Within (if_space (into_slot g d quota new) cs n short) 2 37
+        → Within (if_space (into_slot g d quota new) cs n short) 17 37
     by_space cs n (Some r) has = omega arith
     by_space cs None None has = omega arith
     by_space cs (Some n) None has =
         let all = given_all m.file.clusters cs n has in
         (omega arith, (omega arith, λ b at. making_few g d quota (numbered b new) n cs s.counts.geometry few (λ dir. all ∙ one dir)))
 
-  making_brief : (d : SeenDir) → length d.blocks ≤ 16 → Within (making_events g d (to_make m (entries_of d))) 3 53
-  making_brief d few = quota_brief bs space 120 g own c s PW _ 3 53 (omega arith) (omega arith)
+  making_brief : (d : SeenDir) → length d.blocks ≤ 16 → Within (making_events g d (to_make m (entries_of d))) 18 53
+  making_brief d few = quota_brief bs space 120 g own c s PW _ 18 53 (omega arith) (omega arith)
       (λ quota few_quota. unless_brief bs space 120 (first_refusal (quota_refusals g (to_make m (entries_of d)) (rows_seen quota)))
-      (Find m.file.clusters true (if_space (into_slot g d quota (to_make m (entries_of d))))) 2 37 (λ paid. by_space d few quota space.clusters space.number space.short))
+      (Find m.file.clusters true (if_space (into_slot g d quota (to_make m (entries_of d))))) 17 37 (λ paid. by_space d few quota space.clusters space.number space.short))
 
-  names_brief : Within (maker_events g m) 4 70
-  names_brief = directory_brief bs space 120 g own c s m.dir PW 4 70 (omega arith) _ (omega arith)
+  names_brief : Within (maker_events g m) 19 70
+  names_brief = directory_brief bs space 120 g own c s m.dir PW 19 70 (omega arith) _ (omega arith)
       (λ blocks few. let d : SeenDir = record { fid = m.dir; head = header_block g bs m.dir.num; blocks = blocks } in
-      unless_brief bs space 120 (first_refusal (m.refusals (entries_of d))) (making_events g d (to_make m (entries_of d))) 3 53 (λ order. making_brief d few))
+      unless_brief bs space 120 (first_refusal (m.refusals (entries_of d))) (making_events g d (to_make m (entries_of d))) 18 53 (λ order. making_brief d few))
 
 -- a directory has one cluster
 one_for : (g : Geometry) (x : Cmd) (is : IsMake x) → (maker g x is).file.dir ≡ true → (maker g x is).file.clusters ≡ 1

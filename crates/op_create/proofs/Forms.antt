@@ -15,8 +15,8 @@ use Rattle.plain_rules.specs.Directories.{inserted, is_nil, fits, nowhere, entry
 use Rattle.plain_rules.specs.Changes.{new_file}
 use Rattle.plain_rules.specs.Answers.{first_refusal, dir_name}
 use Rattle.vol_parts.specs.declared.geometry.Geometry.{Geometry}
-use Rattle.op_law.specs.Knows.{takes_space, clusters_wanted}
-use Rattle.plain_rules.specs.Laws.{makes_file as wants_number}
+use Rattle.op_law.specs.declared.seen.Seen.{Seen}
+use Rattle.op_law.specs.Knows.{takes_space, clusters_wanted, wants_number}
 use Rattle.op_law.specs.Writing.{clusters_for}
 use Rattle.op_law.specs.Moving.{is_full}
 use Rattle.op_law.specs.Entering.{create_refusals, mkdir_refusals}
@@ -98,15 +98,15 @@ in_order g other is es e = absurd is
 
 -- ---- the space that is searched for
 
-pub record IsWanted (g : Geometry) (x : Cmd) (m : Maker) : Type 0 where
+pub record IsWanted (seen : Seen) (x : Cmd) (m : Maker) : Type 0 where
   pub takes : takes_space x ≡ true
-  pub clusters : m.file.clusters ≡ clusters_wanted g.cluster x
-  pub number : true ≡ wants_number x
+  pub clusters : m.file.clusters ≡ clusters_wanted seen.geometry.cluster x
+  pub number : true ≡ wants_number seen x
 
-pub is_wanted : (g : Geometry) (x : Cmd) (is : IsMake x) → IsWanted g x (maker g x is)
-is_wanted g (cmd.Create reg dir name ver blocks owner) is = record { takes = refl; clusters = refl; number = refl }
-is_wanted g (cmd.MkDir reg dir name owner) is = record { takes = refl; clusters = refl; number = refl }
-is_wanted g other is = absurd is
+pub is_wanted : (seen : Seen) (x : Cmd) (is : IsMake x) → IsWanted seen x (maker seen.geometry x is)
+is_wanted seen (cmd.Create reg dir name ver blocks owner) is = record { takes = refl; clusters = refl; number = refl }
+is_wanted seen (cmd.MkDir reg dir name owner) is = record { takes = refl; clusters = refl; number = refl }
+is_wanted seen other is = absurd is
 
 -- ---- the new file
 

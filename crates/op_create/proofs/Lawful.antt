@@ -32,7 +32,7 @@ use Rattle.op_law.specs.Fits.{things}
 use Rattle.op_law.specs.Rows.{plain_plan, entries_seen}
 use Rattle.op_law.specs.Writing.{plan_of}
 use Rattle.op_law.specs.Entering.{NewEntry, numbered, entry_for, making_writes, slot_seq, quota_refusals}
-use Rattle.op_law.specs.Laws.{held_in, KeepsOut, Lawful}
+use Rattle.op_law.specs.Laws.{held_in, LeavesSlots, KeepsOut, Lawful}
 use Rattle.op_law.proofs.Walking.{ObeysBy}
 use Rattle.op_law.proofs.Through.{file_told, listed_blocks, IsListed}
 use Rattle.op_steps.specs.EntryWrites.{dir_in}
@@ -45,7 +45,7 @@ use Rattle.op_create.proofs.Forms.{file_of_seq}
 use Rattle.op_create.proofs.Sequences.{sequence_is}
 use Rattle.op_law.proofs.Spaces.{IsSpace, IsKnown, known_space}
 use Rattle.op_create.proofs.Replies.{after_for, refuses_none, refuses_plain, refuses_shown, refuses_unpaid, refuses_short, stands_done, makes_answer}
-use Rattle.op_create.proofs.Making.{made, making_steps, making_named, making_leaves, making_moved}
+use Rattle.op_create.proofs.Making.{made, making_steps, making_named, making_leaves, making_fills, making_moved}
 use Rattle.op_create.proofs.Walks.{makes_obey}
 use Rattle.op_create.proofs.Brief.{makes_brief}
 
@@ -117,6 +117,8 @@ module _ (x : Cmd) (is : IsMake x) (node : ℕ) (seen : Seen) where
         made_done = subst (λ y. Done k_locks (made_plan y)) same_new (record {
           named = making_named x is node g bs own c s stock f dir order_at paid n qs space out count;
           dirs = making_leaves x is node g bs own c s stock f dir order_at paid n qs space out count;
+          slots = subst (λ (t : Things). LeavesSlots g own t (making_writes g (dir_in g bs m.dir) (blocks_at bs (quota_places g)) new n qs)) (sym given)
+              (making_fills x is node g bs own c s stock f dir order_at paid n qs space out count);
           kept_out = subst (λ (t : Things). KeepsOut t (held_in PW k_locks) (making_writes g (dir_in g bs m.dir) (blocks_at bs (quota_places g)) new n qs)) (sym given)
               (making_kept (held_in PW k_locks) g (dir_in g bs m.dir) (blocks_at bs (quota_places g)) new n qs);
           steps = making_steps x is node g bs own c s stock f dir order_at paid n qs space out count (Replied g node (busy x node seen (made_plan new)) x (shown (entry_for n new)) c stock) finish;

@@ -1,5 +1,5 @@
 -- The writes of a new file as a chain of steps, and what guards them.
-use Rattle.std.proofs.Common.{◌≡◌, ◌≤◌, ◌<◌, ◌-◌, ◌+◌, ◌∙◌, inl, inr, ℕ, false, List, [], ◌∷◌, ◌++◌, Some, None, length, append_assoc, refl, sym, subst, arith}
+use Rattle.std.proofs.Common.{◌≡◌, ◌≤◌, ◌<◌, ◌-◌, ◌+◌, ◌∙◌, inl, inr, ℕ, false, List, [], ◌∷◌, ◌++◌, Some, None, length, is_some, slice_get, append_assoc, refl, sym, ap, subst, arith}
 use Rattle.std.proofs.lemmas.List.{append-nil}
 use Rattle.base_words.specs.Fields.{Block}
 use Rattle.fx_header.specs.declared.slot.Hdr.{Hdr}
@@ -13,21 +13,27 @@ use Rattle.plain_rules.specs.Lookups.{file_at, live, row_of, free_clusters}
 use Rattle.plain_rules.specs.Directories.{nowhere}
 use Rattle.plain_rules.specs.Changes.{new_fid, charged}
 use Rattle.plain_rules.specs.Answers.{first_refusal, over_quota}
+use Rattle.base_words.specs.Lists.{Has}
+use Rattle.vol_spell.specs.declared.owner.Owner.TheVariants.{InFile}
 use Rattle.vol_spell.specs.Owners.{Owners, Things, nothing, Outs}
 use Rattle.vol_spell.specs.Spread.{blocks_at}
 use Rattle.vol_parts.specs.declared.geometry.Geometry.{Geometry}
-use Rattle.vol_spell.specs.Reading.{quota_places}
+use Rattle.vol_spell.specs.Reading.{owner_at, header_block, head_told, quota_places}
 use Rattle.vol_spell.specs.Spelling.{Spells}
 use Rattle.vol_spell.specs.Views.{IsSameFile}
+use Rattle.vol_spell.proofs.HeadSlots.{reads_fields}
+use Rattle.vol_spell.proofs.Parts.{in_use}
+use Rattle.vol_under.specs.Guards.{Lock, Stock, guard_by, guard_of}
 use Rattle.vol_under.specs.Chains.{End}
 use Rattle.vol_under.specs.UnderWay.{StandsAt}
 use Rattle.op_law.specs.declared.need.PlanWrite.{PlanWrite}
 use Rattle.op_law.specs.Fits.{things}
-use Rattle.op_law.specs.Laws.{AreNamed, LeavesDirs}
+use Rattle.op_law.specs.Laws.{AreNamed, LeavesDirs, MayFill, OfFile, Given, LeavesSlots}
 use Rattle.op_law.specs.Writing.{holding, empty_handed, header_write}
 use Rattle.op_law.specs.Quotas.{row_charged, owner_write}
 use Rattle.op_law.specs.Moving.{SeenDir, insertion_moves, insertion_writes}
 use Rattle.op_law.specs.Entering.{NewEntry, cost_of, new_header, body_writes, entry_for, making_writes, quota_refusals}
+use Rattle.op_law.proofs.Telling.{live_reads}
 use Rattle.op_law.proofs.Through.{file_told, IsListed}
 use Rattle.op_law.proofs.Naming.{both_named, both_leave, no_header_leaves}
 use Rattle.op_steps.specs.Chained.{Chain, StepsOf, after_writes, StandsOn, FilesStay}
@@ -204,6 +210,30 @@ module _ (x : Cmd) (is : IsMake x) (node : ℕ) (g : Geometry) (bs : List Block)
       (both_leave g bs (body_part ++ head_part) entry_part
       (file_leaves k m.dir n made qs c bs own (record { spelt = s; outs = outs }) space.number)
       (no_header_leaves g bs entry_part (entry_no_header g m.dir d (entry_for n made) stage.Lost stage.Done c bs own s enters))))
+
+  -- the number of the directory is its file's
+  dir_owned : slice_get own.numbers (m.dir.num - 1) ≡ Some (InFile m.dir.num)
+  dir_owned =
+      let b : Block = header_block g bs m.dir.num in
+      (in_use g bs own c s m.dir.num dir.number).0 (ap is_some (reads_fields b f (live_reads m.dir.seq (head_told b) f dir.header)))
+
+  -- a header is written under the lock of its number, which is the directory's, or was given
+  pub making_fills : LeavesSlots g own (things qs (Some n)) (making_writes g dd quota made n qs)
+  making_fills w t i at =
+      let named = making_named w t in
+      let guard : guard_of g own w.lbn ≡ Some (Lock (S i)) = ap (λ p. guard_by p (owner_at g own w.lbn)) at in
+      elim named.guards [
+        | inl e ↦
+            let both : Some (Lock (S i)) ≡ Some (Lock w.lock) = sym guard ∙ e in
+            let same : w.lock ≡ S i = cc in
+            by_lock (subst (λ l. Has k.locks l) same named.held)
+        | inr e ↦ let both : Some (Lock (S i)) ≡ Some (Stock node) = sym guard ∙ e in absurd (cc)
+      ] where
+        by_lock : Has k.locks (S i) → MayFill own (things qs (Some n)) i w.block
+        by_lock (inl h) = let same : m.dir.num ≡ i = cc in OfFile m.dir.num (subst (λ j. slice_get own.numbers (j - 1) ≡ Some (InFile m.dir.num)) same dir_owned)
+        by_lock (inr (inl h)) = absurd (cc)
+        by_lock (inr (inr (inl h))) = let same : n ≡ i = cc in Given (inl (ap (λ j. j - 1) same))
+        by_lock (inr (inr (inr none))) = absurd none
 
   -- the insertion has a write
   pub making_moved : length (insertion_moves dd (entry_for n made)) - 1 < length (insertion_moves dd (entry_for n made))

@@ -1,6 +1,6 @@
 -- The events of a command that makes a file, walked along on blocks that have what it has seen.
 use Rattle.std.proofs.Common.{◌≡◌, inl, inr, ℕ, Bool, true, false, List, [], ◌∷◌, Option, Some, None, length, refl, sym, ap, subst, arith}
-use Rattle.std.specs.Prelude.{◌==◌, ◌&&◌, is_some, if◌then◌else◌}
+use Rattle.std.specs.Prelude.{◌==◌, ◌-◌, ◌&&◌}
 use Rattle.std.proofs.lemmas.Bool.Decides.{nat_tests}
 use Rattle.base_words.specs.Fields.{Block}
 use Rattle.fx_header.specs.declared.slot.Hdr.{Hdr}
@@ -21,7 +21,7 @@ use Rattle.base_words.specs.Lists.{Has}
 use Rattle.vol_spell.specs.Owners.{Owners, Things, Outs}
 use Rattle.vol_spell.specs.Spread.{blocks_at}
 use Rattle.vol_parts.specs.declared.geometry.Geometry.{Geometry}
-use Rattle.vol_spell.specs.Reading.{header_block, quota_places}
+use Rattle.vol_spell.specs.Reading.{header_block, head_told, quota_places}
 use Rattle.vol_spell.specs.Spelling.{Spells}
 use Rattle.op_law.specs.declared.need.Plan.{Plan}
 use Rattle.op_law.specs.declared.seen.Seen.{Seen}
@@ -35,14 +35,16 @@ use Rattle.op_law.specs.Moving.{SeenDir, entries_of}
 use Rattle.op_law.specs.Entering.{numbered, entry_for, making_writes, quota_refusals, made_of, into_slot, making_events}
 use Rattle.op_law.specs.Fits.{things}
 use Rattle.op_law.specs.Order.{level, IsBefore, Higher}
+use Rattle.op_law.proofs.Levels.{outside_level}
+use Rattle.op_law.proofs.Ordering.{file_level}
+use Rattle.op_law.proofs.Telling.{live_reads}
 use Rattle.op_law.proofs.Walking.{ObeysBy}
-use Rattle.op_law.proofs.Through.{file_told, IsListed, number_obeys, quota_obeys, directory_obeys}
+use Rattle.op_law.proofs.Through.{file_header, file_told, IsListed, number_obeys, quota_obeys, directory_obeys}
 use Rattle.op_steps.specs.EntryWrites.{dir_in}
-use Rattle.op_steps.proofs.Chaining.{live_at}
 use Rattle.op_create.specs.Kinds.{IsMake}
 use Rattle.op_create.proofs.Makers.{Maker, to_make, maker_events, maker}
 use Rattle.op_create.proofs.Forms.{in_order, is_wanted}
-use Rattle.op_law.proofs.Spaces.{not_live_number, no_file_at, IsSpace, space_given, IsShort, space_refused, IsKnown}
+use Rattle.op_law.proofs.Spaces.{not_live_number, IsSpace, space_given, IsShort, space_refused, IsKnown}
 
 -- a search that is not refused gives as many clusters as were wanted
 pub given_all : (clusters : ℕ) (cs : List ℕ) (n : ℕ) → has_space clusters true (record { clusters = cs; number = Some n; short = None }) ≡ true → length cs ≡ clusters
@@ -102,9 +104,9 @@ module _ (x : Cmd) (is : IsMake x) (node : ℕ) (seen : Seen) (bs : List Block) 
   module _ (f : Hdr) (dir : IsListed g bs c m.dir f) (order : first_refusal (m.refusals es) ≡ None)
       (unpaid : (r : Refusal) → Paid (Some r) → No r) (short : (r : Refusal) → Paid None → IsShort c m.file.clusters r → No r)
       (made : (n : ℕ) (qs : List ℕ) → Paid None → IsSpace g c qs n → Outs node own (things qs (Some n)) stock → length qs ≡ m.file.clusters → IsOfSpace n qs → P (locks n) (plan n qs)) where
-    -- the directory is in use
-    in_use : level c (S m.dir.num) ≡ 0
-    in_use = ap (λ o. if is_some o then 0 else 4) (live_at c m.dir (file_told bs g m.dir f) dir.live)
+    -- the directory is a file in use
+    dir_level : level g bs own (S m.dir.num) ≡ 0
+    dir_level = file_level g bs own c s m.dir.num f dir.number (live_reads m.dir.seq (head_told (file_header bs g m.dir)) f dir.header)
 
     abbrev two : List (LockName × Mode)
     two = (S m.dir.num, PW) ∷ (Q, PW) ∷ []
@@ -117,18 +119,18 @@ module _ (x : Cmd) (is : IsMake x) (node : ℕ) (seen : Seen) (bs : List Block) 
           new (inr (inl e)) = absurd (cc)
           new (inr (inr t)) = t
 
-          last : level c (S n) ≡ 4
-          last = ap (λ o. if is_some o then 0 else 4) (no_file_at c n given.free)
+          last : level g bs own (S n) ≡ 20
+          last = outside_level g bs own n node ((outs.numbers.all (n - 1)).1 (inl (inl refl)))
 
-          after : (other : LockName) → Has (S m.dir.num ∷ Q ∷ []) other → IsBefore c other (S n)
-          after other (inl e) = subst (λ y. IsBefore c y (S n)) e (Higher (let a = in_use in let b = last in omega arith))
-          after other (inr (inl e)) = subst (λ y. IsBefore c y (S n)) e (Higher (let b = last in omega arith))
+          after : (other : LockName) → Has (S m.dir.num ∷ Q ∷ []) other → IsBefore g bs own c other (S n)
+          after other (inl e) = subst (λ y. IsBefore g bs own c y (S n)) e (Higher (let a = dir_level in let b = last in omega arith))
+          after other (inr (inl e)) = subst (λ y. IsBefore g bs own c y (S n)) e (Higher (let b = last in omega arith))
           after other (inr (inr t)) = absurd t
 
     by_space : Paid None → (cs : List ℕ) (n : Option ℕ) (why : Option Refusal) → space_of seen ≡ record { clusters = cs; number = n; short = why } → has_space m.file.clusters true (record { clusters = cs; number = n; short = why }) ≡ true
         → O (if_space (into_slot g d quota (to_make m es)) cs n why) two
     by_space paid cs n (Some r) is_so has =
-        let want = is_wanted g x is in
+        let want = is_wanted seen x is in
         short r paid (subst (λ k. IsShort c k r) (sym want.clusters) (space_refused c (wanted seen x) r (sym want.number) (subst (λ (y : Space). is_short c (wanted seen x) y.short ≡ true) is_so known.short))) two
     by_space paid cs None None is_so has = absurd (none_given m.file.clusters cs has)
     by_space paid cs (Some n) None is_so has =
@@ -140,7 +142,7 @@ module _ (x : Cmd) (is : IsMake x) (node : ℕ) (seen : Seen) (bs : List Block) 
     by_quota : (o : Option Refusal) → Paid o → O (unless_refused o (Find m.file.clusters true (if_space (into_slot g d quota (to_make m es))))) two
     by_quota (Some r) paid = unpaid r paid two
     by_quota None paid =
-        let want = is_wanted g x is in (
+        let want = is_wanted seen x is in (
           record { takes = want.takes; quota = inr (inl refl); few = (in_order g x is es order).few; clusters_are = want.clusters; number_is = want.number },
           λ has given. by_space paid seen.clusters seen.number seen.short refl has,
         )
@@ -159,8 +161,8 @@ module _ (x : Cmd) (is : IsMake x) (node : ℕ) (seen : Seen) (bs : List Block) 
           new (inl e) = absurd (cc)
           new (inr t) = t
 
-          behind_dir : (other : LockName) → Has (S m.dir.num ∷ []) other → IsBefore c other Q
-          behind_dir other (inl e) = subst (λ y. IsBefore c y Q) e (Higher (let a = in_use in omega arith))
+          behind_dir : (other : LockName) → Has (S m.dir.num ∷ []) other → IsBefore g bs own c other Q
+          behind_dir other (inl e) = subst (λ y. IsBefore g bs own c y Q) e (Higher (let a = dir_level in omega arith))
           behind_dir other (inr t) = absurd t
 
   module _ (none : live c m.dir ≡ None → No refusal.NoSuchFile)

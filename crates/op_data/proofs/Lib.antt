@@ -1,5 +1,7 @@
 pub mod Channel
+pub mod Ranges
 pub mod Shows
+pub mod PartWrites
 pub mod OpenWalk
 pub mod Walks
 pub mod Texts

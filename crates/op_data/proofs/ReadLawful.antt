@@ -1,7 +1,6 @@
 -- The law of READ.
-use Rattle.std.proofs.Common.{◌≡◌, ◌≤◌, ◌*◌, ◌∙◌, inl, ℕ, Bool, true, false, cond, List, [], ◌∷◌, Option, Some, None, refl, sym, ap, subst, arith}
+use Rattle.std.proofs.Common.{◌≡◌, ◌*◌, ◌/◌, ◌∙◌, inl, ℕ, Bool, true, false, cond, List, [], ◌∷◌, Option, Some, None, take, slice_get, refl, sym, ap, subst, arith}
 use Rattle.std.specs.Prelude.{◌==◌, ◌||◌, ◌-◌, nat_lt, slice_index_or}
-use Rattle.std.proofs.lemmas.Bool.Decides.{nat_tests}
 use Rattle.base_words.specs.Fields.{Block}
 use Rattle.base_words.specs.Tables.{zeros}
 use Rattle.fx_header.specs.declared.slot.Hdr.{Hdr}
@@ -16,26 +15,28 @@ use Rattle.plain_cat.specs.declared.reply.Reply.TheVariants as reply
 use Rattle.plain_cat.specs.declared.reply.Refusal.TheVariants as refusal
 use Rattle.plain_cat.specs.declared.cat.Cat.{Cat}
 use Rattle.plain_cat.specs.declared.cat.File.{File}
-use Rattle.plain_rules.specs.Lookups.{file_at, channel_at}
+use Rattle.plain_rules.specs.Lookups.{file_at, channel_at, header_most}
 use Rattle.plain_rules.specs.Changes.{is_past_mark, block_of}
 use Rattle.plain_rules.specs.Answers.{is_outside, Answer}
 use Rattle.vol_spell.specs.Owners.{Owners, Things, nothing, Outs}
 use Rattle.vol_parts.specs.declared.geometry.Geometry.{Geometry}
 use Rattle.vol_parts.specs.Catalogues.{file_of}
+use Rattle.vol_spell.specs.Reading.{header_block}
 use Rattle.vol_spell.specs.Spelling.{Spells}
 use Rattle.vol_under.specs.Guards.{MayLook}
 use Rattle.vol_under.proofs.Steps.{stands_first}
 use Rattle.op_law.specs.declared.need.Plan.{Plan}
 use Rattle.op_law.specs.declared.seen.Seen.{Seen}
 use Rattle.op_law.specs.declared.seen.Chan.{Chan}
-use Rattle.op_law.specs.Channels.{is_outside_file, within, read_in, read_on, read_events}
+use Rattle.op_law.specs.Channels.{is_outside_file, read_in, read_on, read_events}
 use Rattle.op_law.specs.Events.{Events, Fetch}
 use Rattle.op_law.specs.Fits.{things}
+use Rattle.op_law.specs.Headers.{locks_behind, part_file}
 use Rattle.op_law.specs.Knows.{has_channel, knows}
 use Rattle.op_law.specs.Laws.{held_in, IsGuardedLook, Lawful}
 use Rattle.op_law.specs.Needs.{events_of}
-use Rattle.op_law.specs.Refusing.{SeenFile}
-use Rattle.op_law.specs.Rows.{plain_plan, answers, refuses}
+use Rattle.op_law.specs.Refusing.{SeenFile, seen_file}
+use Rattle.op_law.specs.Rows.{plain_plan, answers}
 use Rattle.op_law.specs.SeenFiles.{file_place}
 use Rattle.op_law.proofs.Doing.{IsDone}
 use Rattle.op_law.proofs.Spaceless.{spaceless_lawful}
@@ -49,7 +50,9 @@ use Rattle.vol_spell.proofs.FilePlaces.{file}
 use Rattle.op_data.specs.Kinds.{IsRead}
 use Rattle.op_data.proofs.Channel.{HasOpen, both_hold, open_as}
 use Rattle.op_data.proofs.Shows.{block_shows}
-use Rattle.op_data.proofs.OpenWalk.{open_file, open_obeys}
+use Rattle.op_data.proofs.OpenWalk.{open_file, open_used, part_open_obeys}
+use Rattle.op_data.proofs.PartWrites.{place_so}
+use Rattle.op_data.proofs.Ranges.{in_range, is_within}
 use Rattle.op_data.proofs.Walks.{read_no_search, read_shaped, read_end}
 use Rattle.op_data.proofs.Brief.{read_brief}
 use Rattle.op_data.proofs.ReadReplies.{read_closed, read_outside, read_bytes}
@@ -65,9 +68,7 @@ pub has_block : (g : Geometry) (bs : List Block) (own : Owners) (c : Cat) (n : �
 has_block g bs own c n h f vbn s there flat inside =
     let e : (vbn == 0) || nat_lt (g.cluster * f.clusters) vbn ≡ false = ap (λ (y : File). (vbn == 0) || nat_lt (g.cluster * y.clusters) vbn) (file g bs own c n h f s there) ∙ inside in
     let low = in_range vbn (g.cluster * f.clusters) e in
-    record { there = there; flat = flat; from = low.0; to = low.1 } where
-      in_range : (vbn limit : ℕ) → ((vbn == 0) || nat_lt limit vbn) ≡ false → (1 ≤ vbn) × (vbn ≤ limit)
-      in_range vbn limit e = (grind (arith, nat_tests), grind (arith, nat_tests))
+    record { there = there; flat = flat; from = low.0; to = low.1 }
 
 module _ (chan vbn : ℕ) (node : ℕ) (seen : Seen) (bs : List Block) (own : Owners) (c : Cat) (stock : Things) (s : Spells seen.geometry bs own c)
     (given : things seen.clusters seen.number ≡ nothing) (outs : Outs node own nothing stock) where
@@ -88,7 +89,7 @@ module _ (chan vbn : ℕ) (node : ℕ) (seen : Seen) (bs : List Block) (own : Ow
 
   -- an answer writes nothing
   unchanged : (r : Reply) → Answer c node (cmd.ReadBlock chan vbn) r c → (held : List (LockName × Mode)) → Done held (plain_plan r)
-  unchanged r answer held = record { named = λ w t. absurd t; dirs = λ w t. absurd t; kept_out = λ w t. absurd t; steps = (c, stands_first c node (Some x), s, before, c.opens, answer) }
+  unchanged r answer held = record { named = λ w t. absurd t; dirs = λ w t. absurd t; slots = λ w t. absurd t; kept_out = λ w t. absurd t; steps = (c, stands_first c node (Some x), s, before, c.opens, answer) }
 
   module _ (p : Chan) (opened : HasOpen c node chan p) (h : Hdr) (there : IsFileThere seen.geometry c bs p.file.num h opened.file) where
     abbrev n : ℕ
@@ -97,48 +98,57 @@ module _ (chan vbn : ℕ) (node : ℕ) (seen : Seen) (bs : List Block) (own : Ow
     abbrev sf : SeenFile
     sf = file_in seen.geometry bs p.file.num h
 
-    abbrev first : List (LockName × Mode)
-    first = (S p.file.num, PR) ∷ []
-
     at_file : file_at c p.file.num ≡ Some opened.file
     at_file = open_file c node chan p opened
 
     told : opened.file ≡ file_of seen.geometry.cluster p.file.num h (blocks_in seen.geometry bs p.file.num)
     told = file g bs own c n h opened.file s there
 
-    module _ (inside : is_outside_file seen.geometry (file_in seen.geometry bs p.file.num h).file vbn ≡ false) where
+    outside : is_outside_file seen.geometry (seen_file seen.geometry p.file.num (header_block seen.geometry bs p.file.num) h).file vbn ≡ true → Done ((S p.file.num, PR) ∷ []) (plain_plan (reply.Refused refusal.EndOfFile))
+    outside e = unchanged (reply.Refused refusal.EndOfFile) (read_outside c node chan vbn n opened.mode opened.file opened.at at_file (same_outside g bs own c n h opened.file vbn s there ∙ e)) ((S n, PR) ∷ [])
+
+    module _ (inside : is_outside_file seen.geometry (seen_file seen.geometry p.file.num (header_block seen.geometry bs p.file.num) h).file vbn ≡ false) where
       has : HasBlock seen.geometry c bs p.file.num h opened.file vbn
       has = has_block g bs own c n h opened.file vbn s there opened.flat inside
 
-      bytes : (b : Block) → block_of opened.file vbn ≡ b → Done ((S p.file.num, PR) ∷ []) (plain_plan (reply.Bytes b))
-      bytes b shows = unchanged (reply.Bytes b) (read_bytes c node chan vbn n opened.mode opened.file opened.at at_file (same_outside g bs own c n h opened.file vbn s there ∙ inside) b shows) first
+      -- the file by the headers up to that which lists the block, and the locks that are held then
+      abbrev pf : SeenFile
+      pf = part_file seen.geometry bs p.file.num h ((vbn - 1) / (header_most * seen.geometry.cluster))
+
+      abbrev all : List (LockName × Mode)
+      all = (S p.file.num, PR) ∷ take ((vbn - 1) / (header_most * seen.geometry.cluster)) (locks_behind seen.geometry bs p.file.num PR)
+
+      same_place : file_place pf vbn ≡ file_place (file_in seen.geometry bs p.file.num h) vbn
+      same_place =
+          let within = is_within g n (header_block g bs n) h vbn inside in
+          place_so g bs own c s n h there.number (open_used g bs own c s node chan p opened h there) opened.above vbn within.0 within.1 vbn within.0 (omega arith)
+
+      bytes : (b : Block) → block_of opened.file vbn ≡ b → Done all (plain_plan (reply.Bytes b))
+      bytes b shows = unchanged (reply.Bytes b) (read_bytes c node chan vbn n opened.mode opened.file opened.at at_file (same_outside g bs own c n h opened.file vbn s there ∙ inside) b shows) all
 
       -- the block is under the file's lock
-      look : IsGuardedLook seen.geometry bs own ((S p.file.num, PR) ∷ []) (file_place (file_in seen.geometry bs p.file.num h) vbn)
-      look = record {
-        guard = subst (MayLook (held_in PR first)) (sym (guard g bs own c n h opened.file s there vbn has.from has.to)) (inl refl);
+      look : IsGuardedLook seen.geometry bs own all (file_place pf vbn)
+      look = subst (IsGuardedLook seen.geometry bs own all) (sym same_place) (record {
+        guard = subst (MayLook (held_in PR all)) (sym (guard g bs own c n h opened.file s there vbn has.from has.to)) (inl refl);
         within = (lies g bs own c n h opened.file s there vbn has.from has.to).within;
-      }
+      })
 
-      by_past : (t : Bool) → is_past_mark (file_in seen.geometry bs p.file.num h).file vbn ≡ t
-          → O (cond t (answers (reply.Bytes zeros)) (Fetch (file_place (file_in seen.geometry bs p.file.num h) vbn) (λ b. answers (reply.Bytes b)))) ((S p.file.num, PR) ∷ [])
+      by_past : (t : Bool) → is_past_mark (file_in seen.geometry bs p.file.num h).file vbn ≡ t → O (cond t (answers (reply.Bytes zeros)) (Fetch (file_place pf vbn) (λ b. answers (reply.Bytes b)))) all
       by_past true e =
           let past : is_past_mark opened.file vbn ≡ true = ap (λ (y : File). is_past_mark y vbn) told ∙ e in
           bytes zeros (ap (λ (t : Bool). cond t zeros (slice_index_or opened.file.written (vbn - 1) zeros)) past)
       by_past false e =
           let past : is_past_mark opened.file vbn ≡ false = ap (λ (y : File). is_past_mark y vbn) told ∙ e in
-          (look, λ b at. bytes b (block_shows g bs own c n h opened.file vbn b s has past at))
+          (look, λ b at. bytes b (block_shows g bs own c n h opened.file vbn b s has past (subst (λ l. slice_get bs l ≡ Some b) same_place at)))
 
-    by_outside : (t : Bool) → is_outside_file seen.geometry (file_in seen.geometry bs p.file.num h).file vbn ≡ t
-        → O (cond t (refuses refusal.EndOfFile) (read_in vbn (file_in seen.geometry bs p.file.num h))) ((S p.file.num, PR) ∷ [])
-    by_outside true e = unchanged (reply.Refused refusal.EndOfFile) (read_outside c node chan vbn n opened.mode opened.file opened.at at_file (same_outside g bs own c n h opened.file vbn s there ∙ e)) first
-    by_outside false e = by_past e (is_past_mark sf.file vbn) refl
+      shown : O (read_in vbn pf) all
+      shown = by_past (is_past_mark sf.file vbn) refl
 
   by_channel : (o : Option Chan) → has_channel c node (Some chan) o ≡ true → O (read_on seen.geometry o vbn) []
   by_channel None e = unchanged (reply.Refused refusal.NotOpen) (read_closed c node chan vbn (none_is (channel_at c node chan) e)) []
   by_channel (Some p) e =
       let opened = open_as c node chan p (channel_at c node chan) refl e in
-      open_obeys g bs own c s node chan p opened x seen Done PR (inl refl) (within g vbn (read_in vbn)) (λ h there. by_outside p opened h there (is_outside_file g (file_in g bs p.file.num h).file vbn) refl)
+      part_open_obeys g bs own c s node chan p opened x seen Done PR (inl refl) vbn (read_in vbn) (outside p opened) (shown p opened)
 
   -- on these blocks the command needs what it may, and its plan is done
   pub read_obeys : knows node (cmd.ReadBlock chan vbn) seen c ≡ true → O (events_of seen.geometry seen.channel (cmd.ReadBlock chan vbn)) []

@@ -1,5 +1,5 @@
 -- The law of WRITE.
-use Rattle.std.proofs.Common.{◌≡◌, ◌∙◌, inl, inr, ℕ, Bool, true, false, cond, List, [], ◌∷◌, Option, Some, None, refl, sym, subst}
+use Rattle.std.proofs.Common.{◌≡◌, ◌∙◌, ◌-◌, ◌*◌, ◌/◌, inl, inr, ℕ, Bool, true, false, cond, List, [], ◌∷◌, Option, Some, None, take, refl, sym, subst}
 use Rattle.base_words.specs.Fields.{Block}
 use Rattle.fx_header.specs.declared.slot.Hdr.{Hdr}
 use Rattle.lock_db.specs.declared.name.LockName.{LockName}
@@ -15,11 +15,12 @@ use Rattle.plain_cat.specs.declared.reply.Refusal.{Refusal}
 use Rattle.plain_cat.specs.declared.reply.Refusal.TheVariants as refusal
 use Rattle.plain_cat.specs.declared.cat.Cat.{Cat}
 use Rattle.plain_cat.specs.declared.cat.File.{File}
-use Rattle.plain_rules.specs.Lookups.{file_at, channel_at}
+use Rattle.plain_rules.specs.Lookups.{file_at, channel_at, header_most}
 use Rattle.plain_rules.specs.Changes.{with_file, text_block, written}
 use Rattle.plain_rules.specs.Answers.{is_outside, is_reading, Answer}
 use Rattle.vol_spell.specs.Owners.{Owners, Things, nothing, Outs}
 use Rattle.vol_parts.specs.declared.geometry.Geometry.{Geometry}
+use Rattle.vol_spell.specs.Reading.{header_block}
 use Rattle.vol_spell.specs.Spelling.{Spells}
 use Rattle.vol_under.specs.Chains.{End, Replied}
 use Rattle.vol_under.specs.UnderWay.{StandsAt}
@@ -31,10 +32,11 @@ use Rattle.op_law.specs.declared.seen.Chan.{Chan}
 use Rattle.op_law.specs.Channels.{is_outside_file, within, block_writes, write_in, write_on, write_events}
 use Rattle.op_law.specs.Events.{Events}
 use Rattle.op_law.specs.Fits.{things}
+use Rattle.op_law.specs.Headers.{through_part, locks_behind, part_file}
 use Rattle.op_law.specs.Knows.{has_channel, knows}
-use Rattle.op_law.specs.Laws.{planned, under_way, Lawful}
+use Rattle.op_law.specs.Laws.{held_in, planned, under_way, Lawful}
 use Rattle.op_law.specs.Needs.{events_of}
-use Rattle.op_law.specs.Refusing.{SeenFile, through_open}
+use Rattle.op_law.specs.Refusing.{SeenFile, seen_file, through_open}
 use Rattle.op_law.specs.Rows.{plain_plan, refuses}
 use Rattle.op_law.specs.Writing.{empty_handed, plan_of}
 use Rattle.op_law.proofs.Doing.{IsDone, refusal_done}
@@ -44,11 +46,13 @@ use Rattle.op_steps.specs.Chained.{Chain, StandsOn, StepsOf}
 use Rattle.op_steps.specs.Files.{file_in}
 use Rattle.vol_spell.specs.Files.{IsFileThere}
 use Rattle.op_steps.specs.BlockWrites.{HasBlock}
-use Rattle.op_steps.proofs.WriteGuards.{each_write, write_guards, write_leaves}
+use Rattle.op_steps.proofs.WriteGuards.{each_write, write_guards, write_leaves, write_fills}
 use Rattle.op_steps.proofs.WriteSteps.{write_steps}
 use Rattle.op_data.specs.Kinds.{IsWrite}
 use Rattle.op_data.proofs.Channel.{HasOpen, both_hold, open_as}
-use Rattle.op_data.proofs.OpenWalk.{open_file, open_obeys}
+use Rattle.op_data.proofs.OpenWalk.{open_file, open_used, part_open_obeys}
+use Rattle.op_data.proofs.PartWrites.{writes_so}
+use Rattle.op_data.proofs.Ranges.{is_within}
 use Rattle.op_data.proofs.Texts.{whole_text}
 use Rattle.op_data.proofs.Walks.{write_no_search, write_shaped, write_end, write_outs, write_stage}
 use Rattle.op_data.proofs.Brief.{write_brief}
@@ -83,19 +87,26 @@ module _ (chan vbn : ℕ) (text : List ℕ) (form : is_text text ≡ true) (node
     abbrev sf : SeenFile
     sf = file_in seen.geometry bs p.file.num h
 
-    abbrev held : List (LockName × Mode)
-    held = (S p.file.num, PW) ∷ []
-
-    abbrev names : List LockName
-    names = S p.file.num ∷ []
-
     at_file : file_at c p.file.num ≡ Some opened.file
     at_file = open_file c node chan p opened
 
     writes_it : is_reading opened.mode ≡ false
     writes_it = opened.same ∙ reads
 
-    module _ (inside : is_outside_file seen.geometry (file_in seen.geometry bs p.file.num h).file vbn ≡ false) where
+    outside : is_outside_file seen.geometry (seen_file seen.geometry p.file.num (header_block seen.geometry bs p.file.num) h).file vbn ≡ true → Done ((S p.file.num, PW) ∷ []) (plain_plan (reply.Refused refusal.EndOfFile))
+    outside e = no refusal.EndOfFile (write_outside c node chan vbn text n opened.mode opened.file opened.at at_file writes_it (same_outside g bs own c n h opened.file vbn s there ∙ e)) ((S n, PW) ∷ [])
+
+    module _ (inside : is_outside_file seen.geometry (seen_file seen.geometry p.file.num (header_block seen.geometry bs p.file.num) h).file vbn ≡ false) where
+      -- the file by the headers up to that which lists the block, and the locks that are held then
+      abbrev pf : SeenFile
+      pf = part_file seen.geometry bs p.file.num h ((vbn - 1) / (header_most * seen.geometry.cluster))
+
+      abbrev held : List (LockName × Mode)
+      held = (S p.file.num, PW) ∷ take ((vbn - 1) / (header_most * seen.geometry.cluster)) (locks_behind seen.geometry bs p.file.num PW)
+
+      abbrev names : List LockName
+      names = held_in PW held
+
       abbrev f : File
       f = opened.file
 
@@ -109,7 +120,7 @@ module _ (chan vbn : ℕ) (text : List ℕ) (form : is_text text ≡ true) (node
       writes = block_writes seen.geometry (file_in seen.geometry bs p.file.num h) vbn (text_block text)
 
       abbrev k : Chain
-      k = record { geometry = seen.geometry; node = node; cmd = Some (cmd.WriteBlock chan vbn text); locks = S p.file.num ∷ []; cat = c; stock = stock }
+      k = record { geometry = seen.geometry; node = node; cmd = Some (cmd.WriteBlock chan vbn text); locks = names; cat = c; stock = stock }
 
       abbrev last_cat : Cat
       last_cat = with_file c p.file.num (written opened.file vbn text)
@@ -137,24 +148,26 @@ module _ (chan vbn : ℕ) (text : List ℕ) (form : is_text text ≡ true) (node
           (λ shows. stands_data c node chan vbn text n opened.mode opened.file opened.at at_file writes_it inside_so shows)
           done_stage last_end
 
-      write_done : Done ((S p.file.num, PW) ∷ []) (plan_of writes reply.Written)
-      write_done = record {
+      whole_done : Done held (plan_of writes reply.Written)
+      whole_done = record {
         named = write_guards g n h opened.file vbn (text_block text) c bs own node names s has (inl refl);
         dirs = write_leaves g n h opened.file vbn (text_block text) c bs own s has;
+        slots = write_fills g n h opened.file vbn (text_block text) c bs own (things seen.clusters seen.number) s has;
         kept_out = λ w t. inl (each_write (λ v. (planned v).outs ≡ nothing) g sf vbn (text_block text) has.from (λ v from to b st. refl) refl w t);
         steps = steps;
       }
 
-    by_outside : (t : Bool) → is_outside_file seen.geometry (file_in seen.geometry bs p.file.num h).file vbn ≡ t
-        → O (cond t (refuses refusal.EndOfFile) (write_in seen.geometry vbn text (file_in seen.geometry bs p.file.num h))) ((S p.file.num, PW) ∷ [])
-    by_outside true e = no refusal.EndOfFile (write_outside c node chan vbn text n opened.mode opened.file opened.at at_file writes_it (same_outside g bs own c n h opened.file vbn s there ∙ e)) held
-    by_outside false e = write_done e
+      -- the writes are those by all headers of the file
+      write_done : Done held (plan_of (block_writes seen.geometry pf vbn (text_block text)) reply.Written)
+      write_done =
+          let within = is_within g n (header_block g bs n) h vbn inside in
+          subst (λ ws. Done held (plan_of ws reply.Written))
+          (sym (writes_so g bs own c s n h there.number (open_used g bs own c s node chan p opened h there) opened.above vbn within.0 within.1 (text_block text))) whole_done
 
   by_reading : (p : Chan) → HasOpen c node chan p → (t : Bool) → is_reading p.mode ≡ t
-      → O (cond t (refuses refusal.NoPriv) (through_open seen.geometry p.file PW (refuses refusal.EndOfFile) (within seen.geometry vbn (write_in seen.geometry vbn text)))) []
+      → O (cond t (refuses refusal.NoPriv) (through_open seen.geometry p.file PW (refuses refusal.EndOfFile) (within seen.geometry vbn (λ f. through_part seen.geometry PW vbn f (write_in seen.geometry vbn text))))) []
   by_reading p opened true e = no refusal.NoPriv (write_reading c node chan vbn text p.file.num opened.mode opened.file opened.at (open_file c node chan p opened) (opened.same ∙ e)) []
-  by_reading p opened false e = open_obeys g bs own c s node chan p opened x seen Done PW (inr (inl refl)) (within g vbn (write_in g vbn text))
-      (λ h there. by_outside p opened e h there (is_outside_file g (file_in g bs p.file.num h).file vbn) refl)
+  by_reading p opened false e = part_open_obeys g bs own c s node chan p opened x seen Done PW (inr (inl refl)) vbn (write_in g vbn text) (outside p opened e) (write_done p opened e)
 
   by_channel : (o : Option Chan) → has_channel c node (Some chan) o ≡ true → O (write_on seen.geometry o vbn text) []
   by_channel None e = no refusal.NotOpen (write_closed c node chan vbn text (none_is (channel_at c node chan) e)) []

@@ -7,9 +7,10 @@
 //! let need = op.next(alloc, &seen)?;
 //! ```
 //!
-//! `next` gives exactly the next need: the file's lock, in PR or PW, its header, for a READ below the mark the block, and the
-//! plan. A WRITE past the mark writes zeros up to the block, then the block, then the header. Each READ with its block in form,
-//! and each WRITE with its block and text in form, obeys the law of a command (`read_obeys_the_law`, `write_obeys_the_law`).
+//! `next` gives exactly the next need: the file's lock, in PR or PW, its header, those of its further headers up to that which
+//! lists the block, each behind its own lock, for a READ below the mark the block, and the plan. A WRITE past the mark writes zeros
+//! up to the block, then the block, then the header. Each READ with its block in form, and each WRITE with its block and text in
+//! form, obeys the law of a command (`read_obeys_the_law`, `write_obeys_the_law`).
 //!
 //! `xqp_set` joins it to the other commands.
 #![tactic(auto)]

@@ -8,8 +8,8 @@ use std::alloc::Global;
 use std::marker::Model;
 
 /// A READ or a WRITE under way. Both need the lock of the file that the channel has open, a READ in PR and a WRITE in PW, and its
-/// header. A READ then looks at the block where it lies below the mark or there is none. Where the channel has nothing open, or a
-/// WRITE has it open to read alone, nothing is needed.
+/// header, and the same of each further header up to that which lists the block. A READ then looks at the block where it lies below
+/// the mark or there is none. Where the channel has nothing open, or a WRITE has it open to read alone, nothing is needed.
 #[derive(Drop)]
 pub struct OpData {
     cmd: Cmd,

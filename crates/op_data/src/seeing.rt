@@ -13,7 +13,7 @@ ghost use Rattle.op_law.specs.Channels.{is_outside_file};
 ghost use Rattle.op_law.specs.Behind.{behind_block};
 ghost use Rattle.op_law.specs.Readable.{AreInside, HeadIsInside};
 ghost use Rattle.op_steps.specs.Seeing.{file_seen, IsReadable};
-ghost use Rattle.op_data.specs.Seeing.{behind_open, ShowsFile};
+ghost use Rattle.op_data.specs.Seeing.{behind_open, IsFileOf, ShowsFile};
 
 use base_words::Block;
 use op_law::{Looked, Need, Rest, header_seen, is_number, refused};
@@ -35,7 +35,7 @@ pub(crate) enum Opened<'a> {
 // The file of a header.
 fn file_in<'a>(alloc: Global, file: Fid, head: &'a Block, rest: Rest<'a>) -> Opened<'a>
     requires inside { AreInside head.now }
-    ensures file { ShowsFile file.num result }
+    ensures file { IsFileOf file.num head.now rest.entry.blocks.now result }
     ensures need { (g : Volume) (next : SeenFile → Events) (space : Space)
         → following (if_file (refuses refusal.EndOfFile) next (option_map (seen_file g file.num head.now) (used_in file.seq head.now))) rest.entry.locks.now rest.entry.blocks.now space ≡ behind_open g next space result }
 {
@@ -55,7 +55,7 @@ pub(crate) fn open_seen<'a>(
 ) -> Opened<'a>
     requires geometry { IsGeometry g.now }
     requires inside { HeadIsInside rest.blocks.now }
-    ensures file { ShowsFile g.now.files result }
+    ensures file { ShowsFile g.now.files rest.entry.blocks.now result }
     ensures need { (next : SeenFile → Events) (space : Space)
         → following (through_open g.now file mode (refuses refusal.EndOfFile) next) rest.entry.locks.now rest.entry.blocks.now space ≡ behind_open g.now next space result }
 {

@@ -5,18 +5,19 @@ ghost use Rattle.plain_rules.specs.Answers.{is_reading};
 ghost use Rattle.plain_rules.specs.Changes.{text_block};
 ghost use Rattle.vol_parts.specs.Parts.{IsGeometry};
 ghost use Rattle.op_law.specs.Behind.{goes_on_by};
-ghost use Rattle.op_law.specs.Channels.{within, zero_writes, last_header, block_writes, write_in, write_on, write_events};
+ghost use Rattle.op_law.specs.Channels.{zero_writes, sizes_write, block_writes, write_on, write_events};
 ghost use Rattle.op_law.specs.Events.{next_of, space_of};
 ghost use Rattle.op_law.specs.Readable.{HeadIsInside};
 ghost use Rattle.op_law.specs.SeenFiles.{file_write};
 ghost use Rattle.op_steps.specs.Seeing.{file_seen, IsReadable};
+ghost use Rattle.op_data.specs.Seeing.{write_file, IsFollowed, HeadIsFollowed};
 
 use crate::seeing::{Opened, file_place, is_outside, open_seen};
 use crate::sizing::{is_past_mark, written_header};
 use base_words::{Block, put_bytes, zeros};
 use lock_db::LockName;
 use op_law::{Chan, Need, NoMemory, Numbers, Plan, PlanWrite, Rest, Seen, Writes, refused};
-use op_steps::{FileSeen, push_header};
+use op_steps::{Chained, FileSeen, part_seen, push_header};
 use plain_cat::{Clusters, Mode, Name, Refusal, Reply, Stage};
 use std::alloc::Global;
 use vol_parts::Geometry;
@@ -95,7 +96,7 @@ fn push_last_header(
     requires geometry { IsGeometry g.now }
     requires number { f.now.num ≤ g.now.files }
     requires vbn { vbn ≤ 65536 }
-    ensures { OnOk result (writes.new ≡ writes.old ++ last_header g.now (file_seen g.now f.now) vbn ∷ []) }
+    ensures { OnOk result (writes.new ≡ writes.old ++ sizes_write g.now (file_seen g.now f.now) vbn ∷ []) }
 {
     let block = written_header(g, f, vbn);
     let none = Clusters::new(alloc);
@@ -131,7 +132,7 @@ fn block_writes(
     Ok(writes)
 }
 
-// Behind the header of the file.
+// Behind the first header of the file.
 fn within(
     alloc: Global,
     seen: &Seen,
@@ -142,26 +143,32 @@ fn within(
 ) -> Result<Need, NoMemory>
     requires geometry { IsGeometry seen.now.geometry }
     requires number { f.now.num ≤ seen.now.geometry.files }
+    requires alone { f.now.rest.now ≡ [] }
     requires readable { IsReadable f.now }
+    requires followed { IsFollowed seen.now.geometry vbn f.now.fields f.now.head.now rest.blocks.now }
     requires vbn { vbn ≤ 65536 }
     requires text { length text.now ≤ 512 }
-    ensures { IfOk result (λ need. need ≡ goes_on_by (within seen.now.geometry vbn (write_in seen.now.geometry vbn text.now) (file_seen seen.now.geometry f.now)) rest.entry (space_of seen.now)) }
+    ensures { IfOk result (λ need. need ≡ goes_on_by (write_file seen.now.geometry vbn text.now (file_seen seen.now.geometry f.now)) rest.entry (space_of seen.now)) }
 {
     let g = &seen.geometry;
     if is_outside(g, f, vbn) {
         return Ok(refused(alloc, Refusal::EndOfFile));
     }
-    Ok(Need::Ready(Plan {
-        writes: block_writes(alloc, g, f, vbn, &text_block(text))?,
-        ask: None,
-        reply: Reply::Written,
-    }))
+    match part_seen(g, Mode::PW, vbn, f, rest) {
+        Chained::Next(need) => Ok(need),
+        Chained::File(part, _) => Ok(Need::Ready(Plan {
+            writes: block_writes(alloc, g, &part, vbn, &text_block(text))?,
+            ask: None,
+            reply: Reply::Written,
+        })),
+    }
 }
 
 // With a file that the channel has open in this mode.
 fn write_on(alloc: Global, p: Chan, vbn: u32, text: &Name, seen: &Seen) -> Result<Need, NoMemory>
     requires geometry { IsGeometry seen.now.geometry }
     requires inside { HeadIsInside seen.now.blocks }
+    requires followed { HeadIsFollowed seen.now.geometry vbn seen.now.blocks }
     requires vbn { vbn ≤ 65536 }
     requires text { length text.now ≤ 512 }
     ensures { IfOk result (λ need. need ≡ next_of (write_on seen.now.geometry (Some p) vbn text.now) seen.now) }
@@ -185,6 +192,7 @@ pub(crate) fn write_next(
 ) -> Result<Need, NoMemory>
     requires geometry { IsGeometry seen.now.geometry }
     requires inside { HeadIsInside seen.now.blocks }
+    requires followed { HeadIsFollowed seen.now.geometry vbn seen.now.blocks }
     requires vbn { vbn ≤ 65536 }
     requires text { length text.now ≤ 512 }
     ensures { IfOk result (λ need. need ≡ next_of (write_events seen.now.geometry seen.now.channel vbn text.now) seen.now) }

@@ -6,7 +6,7 @@ use Rattle.std.proofs.lemmas.List.{append-nil}
 use Rattle.base_words.specs.Fields.{Block, IsWholeBlock}
 use Rattle.fx_header.specs.declared.slot.Hdr.{Hdr}
 use Rattle.fx_header.specs.declared.slot.Slot.TheVariants as head
-use Rattle.fx_header.specs.Headers.{runs_in, marked}
+use Rattle.fx_header.specs.Headers.{marked}
 use Rattle.fx_header.proofs.SetterLemmas.{marked-reads}
 use Rattle.lock_db.specs.declared.name.LockName.{LockName}
 use Rattle.lock_db.specs.declared.name.LockName.TheVariants.{S}
@@ -25,9 +25,9 @@ use Rattle.plain_rules.specs.Answers.{has_entries}
 use Rattle.base_words.specs.Lists.{Has}
 use Rattle.vol_spell.specs.Owners.{Owners, Things, nothing, Outs}
 use Rattle.vol_parts.specs.declared.geometry.Geometry.{Geometry}
-use Rattle.vol_spell.specs.Reading.{IsFileNumber, header_block, head_told, clusters_of}
+use Rattle.vol_parts.specs.Volumes.{Told}
+use Rattle.vol_spell.specs.Reading.{IsFileNumber, header_block, head_told, told_of}
 use Rattle.vol_spell.specs.Spelling.{Spells}
-use Rattle.vol_parts.specs.Chains.{cut}
 use Rattle.vol_under.specs.Chains.{End}
 use Rattle.vol_under.specs.UnderWay.{StandsAt}
 use Rattle.vol_under.proofs.Steps.{stands_first}
@@ -35,12 +35,10 @@ use Rattle.op_law.specs.declared.need.PlanWrite.{PlanWrite}
 use Rattle.op_law.specs.Writing.{empty_handed}
 use Rattle.vol_spell.specs.Files.{IsFileThere}
 use Rattle.op_law.specs.Refusing.{SeenFile}
-use Rattle.op_law.specs.SeenFiles.{runs_by, file_clusters}
 use Rattle.op_law.specs.Moving.{SeenDir, removal_writes}
 use Rattle.op_law.specs.Removing.{unnaming_writes}
 use Rattle.vol_spell.proofs.Heads.{first_reads, first_segment, reads_first}
 use Rattle.vol_spell.proofs.HeadSlots.{file_told_at}
-use Rattle.op_law.proofs.SeenRuns.{lone_runs}
 use Rattle.op_law.proofs.Through.{file_told, IsListed}
 use Rattle.op_steps.specs.Chained.{Chain, StepsOf, after_writes, StandsOn}
 use Rattle.op_steps.specs.EntryWrites.{dir_in}
@@ -50,9 +48,8 @@ use Rattle.vol_spell.proofs.RemovalLists.{found_there}
 use Rattle.op_steps.proofs.RemovalSteps.{removal_steps}
 use Rattle.op_steps.specs.Files.{file_in}
 use Rattle.op_steps.specs.HeadWrites.{IsHeadWritten}
-use Rattle.op_steps.specs.MarkWrites.{marked_write}
+use Rattle.op_steps.specs.MarkWrites.{IsSameChain, marked_write}
 use Rattle.vol_spell.proofs.HeadFiles.{head_whole}
-use Rattle.vol_spell.proofs.HeadRuns.{marked_runs}
 use Rattle.op_steps.proofs.Kept.{marked_steps}
 use Rattle.op_delete.proofs.Slots.{slots_apart, slot_same}
 use Rattle.vol_spell.proofs.Slots.{file_there}
@@ -130,11 +127,12 @@ module _ (node : ℕ) (g : Geometry) (bs : List Block) (own : Owners) (c : Cat) 
       pub there : IsFileThere g c bs e.fid.num h f
       there = record { number = number; above = above; reads = reads; file = at_file }
 
-      -- Blocks that spell the catalogue without the entry, with the file marked: it has the clusters that it had.
+      -- Blocks that spell the catalogue without the entry, with the file marked: it has the headers and the runs that it had.
       pub record IsUnlinked (bs' : List Block) : Type 0 where
         pub spelt : Spells g bs' own bare_cat
         pub file : IsFileThere g bare_cat bs' e.fid.num hm fm
-        pub clusters : file_clusters g (file_in g bs' e.fid.num hm) ≡ file_clusters g sf
+        pub slots : (told_of g bs' e.fid.num).slots ≡ (told_of g bs e.fid.num).slots
+        pub runs : (told_of g bs' e.fid.num).runs ≡ (told_of g bs e.fid.num).runs
 
       module _ (uses : in_use c e.fid ≡ Some f) (bare : has_entries (Some f) ≡ false) (apart : dir.num ≡ e.fid.num → ⊥) (in_dir : Has locks (S dir.num)) (in_file : Has locks (S e.fid.num)) where
         at_less : file_at lesser e.fid.num ≡ Some f
@@ -143,13 +141,14 @@ module _ (node : ℕ) (g : Geometry) (bs : List Block) (own : Owners) (c : Cat) 
         marked_there : file_at bare_cat e.fid.num ≡ Some fm
         marked_there = file_there lesser e.fid.num f fm number.from at_less
 
-        -- blocks with this header of the file are so
-        unlinked_at : (bs' : List Block) (b : Block) → Spells g bs' own bare_cat → header_block g bs' e.fid.num ≡ b → head_told b ≡ Ok (head.Used hm) → runs_in b ≡ runs_in hb → IsUnlinked bs'
-        unlinked_at bs' b spelt is marked_reads same = record {
+        -- blocks with this header of the file, of which the same is told, are so
+        unlinked_at : (bs' : List Block) (b : Block) (t : Told) → Spells g bs' own bare_cat → header_block g bs' e.fid.num ≡ b → head_told b ≡ Ok (head.Used hm)
+            → told_of g bs' e.fid.num ≡ t → t.slots ≡ (told_of g bs e.fid.num).slots → t.runs ≡ (told_of g bs e.fid.num).runs → IsUnlinked bs'
+        unlinked_at bs' b t spelt is marked_reads same slots runs = record {
           spelt = spelt;
           file = record { number = number; above = above; reads = ap head_told is ∙ marked_reads; file = marked_there };
-          clusters = ap (λ (x : Block). clusters_of g.cluster (runs_by h.blocks x [])) is
-              ∙ ap (clusters_of g.cluster) (lone_runs b hm (first_reads b hm marked_reads) ∙ ap (cut h.blocks) same ∙ sym (lone_runs hb h (first_reads hb h reads)));
+          slots = ap (λ (y : Told). y.slots) same ∙ slots;
+          runs = ap (λ (y : Told). y.runs) same ∙ runs;
         }
 
         abbrev Unlinked : Cat → Type 0
@@ -181,7 +180,8 @@ module _ (node : ℕ) (g : Geometry) (bs : List Block) (own : Owners) (c : Cat) 
           marked_chain : StepsOf end k (writes_by true ++ ws) bs own
           marked_chain =
               removal_steps end k dir d e stage.Nothing stage.Unlinked ws c bs own started can first_at (subst Unlinked same_cat unlinked_stage)
-              (λ on stays. rest (unlinked_at _ hb (subst (λ y. Spells g (after_writes (writes_by true) bs) own y) (sym same_cat) on.spelt) (stays e.fid.num number (λ q. apart (sym q))).header marked_reads refl))
+              (λ on stays. let at = stays e.fid.num number (λ q. apart (sym q)) in
+              rest (unlinked_at _ hb (told_of g bs e.fid.num) (subst (λ y. Spells g (after_writes (writes_by true) bs) own y) (sym same_cat) on.spelt) at.header marked_reads at.told refl refl))
 
         -- it is not: the mark comes first
         module _ (end : End) (ws : List PlanWrite) (was : h.marked ≡ false) (rest : Rest end (writes_by false) ws) where
@@ -209,10 +209,13 @@ module _ (node : ℕ) (g : Geometry) (bs : List Block) (own : Owners) (c : Cat) 
           whole : IsWholeBlock hb
           whole = head_whole g bs own c e.fid.num h s number reads
 
+          mark_reads : head_told (marked hb) ≡ Ok (head.Used hm)
+          mark_reads = reads_first (marked hb) hm (marked-reads hb h whole.long whole.bytes (first_reads hb h reads)) (first_segment hb h reads)
+
           marked_stage : StandsAt c node (Some x) stage.Marked with_mark
           marked_stage = stands_marked c node dir name ver d listed.live listed.dir e found free f uses bare was
 
-          module _ (w : IsHeadWritten k e.fid.num (marked hb) nothing with_mark bs next own) where
+          module _ (w : IsHeadWritten k e.fid.num (marked hb) nothing with_mark bs next own) (same : IsSameChain g e.fid.num bs next) where
             abbrev removal_in : SeenDir → List PlanWrite
             removal_in y = removal_writes y e stage.Marked stage.Unlinked
 
@@ -225,10 +228,9 @@ module _ (node : ℕ) (g : Geometry) (bs : List Block) (own : Owners) (c : Cat) 
             goes : Goes (dir_in g next dir)
             goes more =
                 removal_steps end k dir d e stage.Marked stage.Unlinked ws with_mark next own (record { spelt = w.spelt; outs = w.outs }) can_then marked_stage (subst Unlinked (sym order) unlinked_stage)
-                (λ on stays. more (unlinked_at _ (marked hb) (subst (λ y. Spells g (after_writes (removal_in (dir_in g next dir)) next) own y) order on.spelt)
-                ((stays e.fid.num number (λ q. apart (sym q))).header ∙ w.file.header)
-                (reads_first (marked hb) hm (marked-reads hb h whole.long whole.bytes (first_reads hb h reads)) (first_segment hb h reads))
-                (marked_runs hb h whole.long (first_reads hb h reads))))
+                (λ on stays. let at = stays e.fid.num number (λ q. apart (sym q)) in
+                more (unlinked_at _ (marked hb) (told_of g next e.fid.num) (subst (λ y. Spells g (after_writes (removal_in (dir_in g next dir)) next) own y) order on.spelt)
+                (at.header ∙ w.file.header) mark_reads at.told same.slots same.runs))
 
             behind_mark : StepsOf end k (removal_in dd ++ ws) next own
             behind_mark = subst Goes same_names goes rest

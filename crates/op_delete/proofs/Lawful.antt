@@ -1,14 +1,11 @@
 -- DELETE obeys the law.
-use Rattle.fx_header.specs.declared.run.Run.{Run}
-use Rattle.op_law.proofs.SeenRuns.{first_runs}
+use Rattle.op_law.proofs.SeenRuns.{seen_runs}
 use Rattle.op_law.specs.SeenFiles.{file_places}
-use Rattle.std.proofs.Common.{◌≡◌, ◌∙◌, inl, inr, ℕ, Bool, true, false, cond, List, [], ◌∷◌, Option, Some, None, map, length, is_some, refl, sym, ap, subst, arith}
+use Rattle.std.proofs.Common.{◌≡◌, ◌<◌, ◌∙◌, inl, inr, ℕ, Bool, true, false, cond, List, [], ◌∷◌, ◌++◌, Option, Some, None, length, refl, sym, ap, subst, arith}
 use Rattle.std.specs.Prelude.{◌==◌, ◌&&◌, not, nat_le, option_map, Ok}
 use Rattle.std.specs.List.{list_all}
 use Rattle.std.proofs.lemmas.Bool.{and_parts}
 use Rattle.std.proofs.lemmas.Bool.Decides.{nat_tests}
-use Rattle.std.proofs.lemmas.List.{length-map}
-use Rattle.std.proofs.lemmas.Option.{get_or_from_slice_get}
 use Rattle.base_words.specs.Fields.{Block}
 use Rattle.fx_header.specs.declared.slot.Hdr.{Hdr}
 use Rattle.fx_header.specs.declared.slot.Slot.TheVariants as head
@@ -32,20 +29,13 @@ use Rattle.plain_rules.specs.Lookups.{file_at, in_use, versions, entry_of, is_op
 use Rattle.plain_rules.specs.Directories.{is_nil}
 use Rattle.plain_rules.specs.Answers.{has_entries, Answer}
 use Rattle.base_words.specs.Lists.{Has}
+use Rattle.vol_spell.specs.Files.{blocks_told}
 use Rattle.vol_spell.specs.Owners.{Owners, Things, nothing, Outs}
 use Rattle.vol_spell.specs.Spread.{blocks_at}
-use Rattle.vol_spell.proofs.Placing.{length-blocks_at}
 use Rattle.vol_parts.specs.declared.geometry.Geometry.{Geometry}
-use Rattle.vol_parts.specs.declared.geometry.Part.{Part}
-use Rattle.vol_parts.specs.declared.geometry.Part.TheVariants.{Storage, IndexBitmap}
 use Rattle.vol_parts.specs.Catalogues.{plain_entries}
-use Rattle.vol_spell.specs.Reading.{IsFileNumber, header_place, header_block, head_told, runs_told}
-use Rattle.vol_spell.specs.Places.{place_of, IsPart, file_of_part}
+use Rattle.vol_spell.specs.Reading.{IsFileNumber, header_place, header_block, head_told, fields_told, runs_told}
 use Rattle.vol_spell.specs.Spelling.{Spells}
-use Rattle.vol_spell.specs.declared.owner.Owner.TheVariants.{InFile}
-use Rattle.vol_spell.proofs.Parts.{part_there, part_owned}
-use Rattle.vol_spell.proofs.Frames.{on_volume}
-use Rattle.vol_under.specs.Guards.{Lock, guard_of}
 use Rattle.op_law.specs.declared.need.Plan.{Plan}
 use Rattle.op_law.specs.declared.need.PlanWrite.{PlanWrite}
 use Rattle.op_law.specs.declared.seen.Seen.{Seen}
@@ -54,35 +44,38 @@ use Rattle.op_law.specs.Needs.{events_of}
 use Rattle.op_law.specs.Fits.{HasSeen, things}
 use Rattle.op_law.specs.Knows.{knows, is_granted, is_new_number, is_short, usages_fit, opens_hold, wanted}
 use Rattle.plain_rules.specs.Opens.{is_held_open}
-use Rattle.op_law.specs.Laws.{held_in, Fixed, IsLockedLook, Lawful}
-use Rattle.op_law.specs.Order.{IsBefore, Higher, level}
+use Rattle.op_law.specs.Laws.{held_in, IsLockedLook, Lawful}
+use Rattle.op_law.specs.Order.{IsBefore}
+use Rattle.op_law.specs.Headers.{through_chain, locks_behind}
 use Rattle.op_law.specs.Rows.{plain_plan, refuses, is_number, look_all, entries_seen}
 use Rattle.vol_spell.specs.Entries.{places_in}
 use Rattle.op_law.specs.Refusing.{SeenFile, seen_file, used_in, if_file, if_entry}
 use Rattle.op_law.specs.Moving.{SeenDir, entries_of}
-use Rattle.op_law.specs.Freeing.{SeenSpace, blocks_for, all_clusters, through_space, freeing_writes}
+use Rattle.op_law.specs.Freeing.{SeenSpace, through_space, freeing_writes}
 use Rattle.op_law.specs.Removing.{under_lock, if_empty, delete_plan, entry_removed, delete_in, unnaming_writes}
 use Rattle.op_law.proofs.Walking.{ObeysBy, kept}
-use Rattle.op_law.proofs.Telling.{number_is}
-use Rattle.vol_spell.proofs.HeadSlots.{reads_fields, file_told_at, file_blocks}
+use Rattle.op_law.proofs.Levels.{AreUpTo, none_held, up_to_more}
+use Rattle.op_law.proofs.Links.{held_with, chain_obeys, chain_up_to}
+use Rattle.op_law.proofs.Telling.{number_is, live_reads}
+use Rattle.vol_spell.proofs.HeadSlots.{reads_fields, file_told_at, dir_runs}
 use Rattle.op_law.proofs.Looks.{header_under, block_under}
 use Rattle.op_law.proofs.Heads.{header_is, listed_inside}
-use Rattle.op_law.proofs.Through.{file_told, IsListed, directory_obeys, number_obeys, quota_obeys, all_obeys}
-use Rattle.op_law.proofs.Ordering.{entry_behind}
+use Rattle.op_law.proofs.Through.{file_told, IsListed, directory_obeys, number_obeys, all_obeys}
+use Rattle.op_law.proofs.Ordering.{file_level, entry_behind}
 use Rattle.op_law.proofs.Ends.{nothing_given}
 use Rattle.op_law.proofs.Doing.{AreDone, refusal_done}
 use Rattle.op_law.proofs.Asking.{IsDoneBy, asks_lawful}
 use Rattle.op_steps.specs.EntryWrites.{dir_in}
 use Rattle.op_steps.proofs.Chaining.{live_at}
 use Rattle.op_steps.specs.Files.{file_in}
-use Rattle.op_freeing.proofs.Filters.{mapped}
-use Rattle.op_freeing.proofs.Named.{guarded, for_part}
+use Rattle.op_freeing.specs.GoneWrites.{HaveLocks, space_at}
+use Rattle.op_freeing.proofs.Looks.{chain_locks, last, last_q, last_v, last_locks, space_obeys}
 use Rattle.op_delete.specs.Kinds.{IsDelete}
 use Rattle.op_delete.proofs.Slots.{first_writes}
 use Rattle.op_delete.proofs.Outcomes.{refuses_none, refuses_plain, refuses_missing, refuses_kept, refuses_full}
-use Rattle.op_delete.proofs.Plans.{lone_done, refused_done, granted_done, space}
+use Rattle.op_delete.proofs.Plans.{lone_done, refused_done, granted_done}
 use Rattle.op_steps.proofs.Uses.{used_reads, used_is, not_used}
-use Rattle.op_delete.proofs.Walks.{behind, events_are, no_search, shaped, ends, whole_outs}
+use Rattle.op_delete.proofs.Walks.{behind, events_are, no_search, shaped, ends}
 use Rattle.op_delete.proofs.Brief.{delete_brief}
 use Rattle.op_law.proofs.Spaceless.{once}
 use Rattle.op_law.proofs.Opens.{any_conflicts}
@@ -117,15 +110,6 @@ module _ (dir : Fid) (name : List ℕ) (ver : ℕ) where
 
     no : (r : Refusal) → Answer c node x (reply.Refused r) c → (held : List (LockName × Mode)) → Done held (plain_plan (reply.Refused r))
     no r answer held = refusal_done x node seen bs own c stock s (subst (λ t. Outs node own t stock) (sym given) outs) r answer held
-
-    -- a look at a part of the volume under V
-    part_look : (held : List (LockName × Mode)) → Has (held_in PR held) V → (p : Part) → IsPart g p → guard_of g own (place_of g p) ≡ Some (Lock V) → IsLockedLook g bs own c held V (place_of g p)
-    part_look held has p is guard = record {
-      kind = Fixed p (part_there g bs own c s p is);
-      guard = guard;
-      held = has;
-      within = on_volume g bs own c s (place_of g p) (InFile (file_of_part p)) (part_owned g bs own c s p is);
-    }
 
     module _ (fh : Hdr) (listed : IsListed g bs c dir fh) where
       abbrev d : File
@@ -177,55 +161,21 @@ module _ (dir : Fid) (name : List ℕ) (ver : ℕ) where
             abbrev next : Events
             next = through_space g sf (λ sp. Make (delete_plan g dd e sf sp))
 
-            -- ---- the plan
+            used_told : fields_told hb ≡ Some h
+            used_told = reads_fields hb h reads
 
-            module _ (bare : has_entries (Some f) ≡ false) where
+            above : 11 < e.fid.num
+            above = grind (arith, nat_tests)
+
+            -- ---- the plan, where these locks are held
+
+            module _ (bare : has_entries (Some f) ≡ false) (held : List (LockName × Mode)) (in_dir : Has (held_in PW held) (S dir.num)) (in_all : HaveLocks seen.geometry (file_in seen.geometry bs e.fid.num h) (held_in PW held))
+                (in_q : Has (held_in PW held) Q) (in_v : Has (held_in PW held) V) where
               abbrev sp : SeenSpace
-              sp = space node seen bs own c s stock outs dir name ver fh listed e found free h number reads
+              sp = space_at seen.geometry bs e.fid.num h
 
               abbrev us : List PlanWrite
               us = unnaming_writes g dd e sf
-
-              abbrev second : List (LockName × Mode)
-              second = (S dir.num, PW) ∷ (S e.fid.num, PW) ∷ []
-
-              abbrev third : List (LockName × Mode)
-              third = (S dir.num, PW) ∷ (S e.fid.num, PW) ∷ (Q, PW) ∷ []
-
-              abbrev last : List (LockName × Mode)
-              last = (S dir.num, PW) ∷ (S e.fid.num, PW) ∷ (Q, PW) ∷ (V, PW) ∷ []
-
-              held_first : (other : LockName) → Has (S dir.num ∷ []) other → other ≡ S dir.num
-              held_first other (inl is) = sym is
-              held_first other (inr t) = absurd t
-
-              dir_level : level c (S dir.num) ≡ 0
-              dir_level = ap (λ (o : Option File). cond (is_some o) 0 4) (live_at c dir d listed.live)
-
-              file_level : level c (S e.fid.num) ≡ 0
-              file_level = ap (λ (o : Option File). cond (is_some o) 0 4) at_file
-
-              before_q : (other : LockName) → Has (S dir.num ∷ S e.fid.num ∷ []) other → IsBefore c other Q
-              before_q other (inl is) = subst (λ l. IsBefore c l Q) is (Higher (let z = dir_level in omega arith))
-              before_q other (inr (inl is)) = subst (λ l. IsBefore c l Q) is (Higher (let z = file_level in omega arith))
-              before_q other (inr (inr t)) = absurd t
-
-              before_v : (other : LockName) → Has (S dir.num ∷ S e.fid.num ∷ Q ∷ []) other → IsBefore c other V
-              before_v other (inl is) = subst (λ l. IsBefore c l V) is (Higher (let z = dir_level in omega arith))
-              before_v other (inr (inl is)) = subst (λ l. IsBefore c l V) is (Higher (let z = file_level in omega arith))
-              before_v other (inr (inr (inl is))) = subst (λ l. IsBefore c l V) is (Higher (omega arith))
-              before_v other (inr (inr (inr t))) = absurd t
-
-              no_q : Has (S dir.num ∷ S e.fid.num ∷ []) Q → ⊥
-              no_q (inl is) = cc
-              no_q (inr (inl is)) = cc
-              no_q (inr (inr t)) = t
-
-              no_v : Has (S dir.num ∷ S e.fid.num ∷ Q ∷ []) V → ⊥
-              no_v (inl is) = cc
-              no_v (inr (inl is)) = cc
-              no_v (inr (inr (inl is))) = cc
-              no_v (inr (inr (inr t))) = t
 
               apart : dir.num ≡ e.fid.num → ⊥
               apart = others bare
@@ -234,30 +184,30 @@ module _ (dir : Fid) (name : List ℕ) (ver : ℕ) where
               asked : is_granted node (record { at = length us; file = e.fid.num; chan = 0; mode = EX; refused = reply.Marked }) c ≡ not (is_open c e.fid.num)
               asked = ap not (any_conflicts e.fid.num c.opens hold)
 
-              plan_done : Done last (delete_plan g dd e sf sp)
-              unfolding freeing_writes
+              plan_done : Done held (delete_plan g dd e sf sp)
               plan_done = record {
-                granted = λ yes. granted_done node seen bs own c s stock outs dir name ver fh listed e found free h number reads uses bare apart (not_true (is_open c e.fid.num) (sym asked ∙ yes))
-                    (whole_outs g dd e sf sp (let n = length-blocks_at bs (map (λ k. place_of g (Storage k)) (blocks_for g (all_clusters g sf))) in let m = length-map (blocks_for g (all_clusters g sf)) (λ k. place_of g (Storage k)) in omega arith) (things seen.clusters seen.number));
-                refused = λ not_so. subst (λ ws. AreDone x node seen bs own c stock last ws reply.Marked) (sym (first_writes us (freeing_writes g sf sp)))
-                    (refused_done node seen bs own c s stock outs dir name ver fh listed e found free h number reads uses bare apart (not_false (is_open c e.fid.num) (sym asked ∙ not_so)));
+                granted = λ yes. granted_done node seen bs own c s stock outs dir name ver fh listed e found free h number reads held in_dir in_all in_q in_v uses bare apart (not_true (is_open c e.fid.num) (sym asked ∙ yes));
+                refused = λ not_so. subst (λ ws. AreDone x node seen bs own c stock held ws reply.Marked) (sym (first_writes us (freeing_writes g sf sp)))
+                    (refused_done node seen bs own c s stock outs dir name ver fh listed e found free h number reads held in_dir in_all in_q in_v uses bare apart (not_false (is_open c e.fid.num) (sym asked ∙ not_so)));
               }
 
-              -- its locks and looks
-              space_obeys : O next second
-              space_obeys =
-                  let by = guarded g bs own c s in
-                  let ks = blocks_for g (all_clusters g sf) in
-                  quota_obeys x g bs own c s seen Done second PW (inr (inl refl)) _ no_q before_q (
-                    record { new = no_v; in_mode = inr (inl refl); own = refl; turn = inr (inr (inl refl)); after = before_v },
-                    (
-                      part_look last (inr (inr (inr (inl refl)))) IndexBitmap tt by.index,
-                      λ b at. all_obeys x g bs own c s seen Done V last (map (λ k. place_of g (Storage k)) ks) _
-                          (λ l t. let m = mapped (λ k. place_of g (Storage k)) ks l t in
-                          subst (λ y. IsLockedLook g bs own c last V y) m.2 (part_look last (inr (inr (inr (inl refl)))) (Storage m.0) (for_part g (all_clusters g sf) m.0 m.1) (ap (guard_of g own) m.2 ∙ by.storage (all_clusters g sf) l t)))
-                          (subst (λ y. Done last (delete_plan g dd e sf (record sp { index = y }))) (get_or_from_slice_get bs (place_of g IndexBitmap) b [] at) plan_done),
-                    ),
-                  )
+            -- Where the locks of the directory and the file are held: those of the file's other headers, Q and V, and the plan.
+            module _ (bare : has_entries (Some f) ≡ false) (held : List (LockName × Mode)) (low : AreUpTo seen.geometry bs own 0 held) (in_dir : Has (held_in PW held) (S dir.num)) (in_file : Has (held_in PW held) (S e.fid.num)) where
+              abbrev all : List (LockName × Mode)
+              all = held ++ locks_behind seen.geometry bs e.fid.num PW
+
+              up : AreUpTo seen.geometry bs own 15 (held ++ locks_behind seen.geometry bs e.fid.num PW)
+              up = chain_up_to g bs own c s e.fid.num h number used_told PW held low
+
+              dir_held : Has (held_in PW (last x g bs own c s seen Done refl (held ++ locks_behind seen.geometry bs e.fid.num PW) up)) (S dir.num)
+              dir_held = held_with PW (all ++ (Q, PW) ∷ []) ((V, PW) ∷ []) (S dir.num) (held_with PW all ((Q, PW) ∷ []) (S dir.num) (held_with PW held (locks_behind g bs e.fid.num PW) (S dir.num) in_dir))
+
+              room_obeys : O next (held ++ locks_behind seen.geometry bs e.fid.num PW)
+              room_obeys =
+                  space_obeys x g bs own c s seen Done refl all up e.fid.num h (λ sp. delete_plan g dd e sf sp)
+                  (plan_done bare (last x g bs own c s seen Done refl all up) dir_held
+                  (last_locks x g bs own c s seen Done refl all up sf (chain_locks g bs e.fid.num h held in_file))
+                  (last_q x g bs own c s seen Done refl all up) (last_v x g bs own c s seen Done refl all up))
 
             -- ---- a file in use, whichever locks are held
 
@@ -268,7 +218,8 @@ module _ (dir : Fid) (name : List ℕ) (ver : ℕ) where
 
               entries_are : h.dir ≡ true → f.entries ≡ entries_seen (blocks_at bs (places_in hb))
               entries_are is =
-                  ap (λ t. cond t (plain_entries (directory (file_blocks bs hb))) []) is ∙ ap (λ rs. entries_seen (blocks_at bs (lbns_in rs))) (dir_listed is)
+                  ap (λ t. cond t (plain_entries (directory (blocks_told g bs e.fid.num))) []) is
+                  ∙ ap (λ rs. entries_seen (blocks_at bs (lbns_in rs))) (dir_runs g bs own c s e.fid.num h number reads is)
 
               by_nil : h.dir ≡ true → (t : Bool) → is_nil (entries_seen (blocks_at bs (places_in hb))) ≡ t → O (cond t next (refuses refusal.DirNotEmpty)) held
               by_nil is true none = go (ap (λ t. t && not (is_nil f.entries)) is ∙ ap (λ ys. not (is_nil ys)) (entries_are is) ∙ ap not none)
@@ -282,6 +233,10 @@ module _ (dir : Fid) (name : List ℕ) (ver : ℕ) where
                   let u = block_under g bs own c s e.fid.num l h number reads is (subst (λ ls. Has ls l) (sym places) t) in
                   record { kind = u.kind; guard = u.guard; held = has; within = u.within }
 
+              -- where its blocks stand
+              dir_places : h.dir ≡ true → file_places sf ≡ places_in hb
+              dir_places is = ap lbns_in (seen_runs g bs e.fid.num h used_told ∙ dir_runs g bs own c s e.fid.num h number reads is)
+
               empty_obeys : O (if_empty sf next) held
               empty_obeys = by_dir h.dir refl where
                 behind : List Block → Events
@@ -289,25 +244,42 @@ module _ (dir : Fid) (name : List ℕ) (ver : ℕ) where
 
                 by_dir : (t : Bool) → h.dir ≡ t → O (cond t (look_all (S e.fid.num) (file_places sf) behind) next) held
                 by_dir true is =
-                    subst (λ (rs : List Run). O (look_all (S e.fid.num) (lbns_in rs) behind) held) (sym (first_runs hb h reads ∙ dir_listed is))
+                    subst (λ (ls : List ℕ). O (look_all (S e.fid.num) ls behind) held) (sym (dir_places is))
                     (all_obeys x g bs own c s seen Done (S e.fid.num) held (places_in hb) behind (under_file is) (by_nil is (is_nil (entries_seen (blocks_at bs (places_in hb)))) refl))
                 by_dir false is = go (ap (λ t. t && not (is_nil f.entries)) is)
 
+          -- behind the header of the file
+          abbrev whole : SeenFile → Events
+          whole f = if_empty f (through_space g f (λ sp. Make (delete_plan g dd e f sp)))
+
           abbrev looking : Block → Events
-          looking b = if_file (entry_removed dd e) (λ f. if_empty f (through_space g f (λ sp. Make (delete_plan g dd e f sp)))) (option_map (seen_file g e.fid.num b) (used_in e.fid.seq b))
+          looking b = if_file (entry_removed dd e) (λ first. through_chain g PW first whole) (option_map (seen_file g e.fid.num b) (used_in e.fid.seq b))
 
           -- the file by its header, where these locks are held
-          used_obeys : (held : List (LockName × Mode)) → Has (held_in PW held) (S dir.num) → Has (held_in PR held) (S e.fid.num)
-              → ((h : Hdr) → used_in e.fid.seq hb ≡ Some h → has_entries (Some (file_told bs g e.fid h)) ≡ false → O (through_space g (file_in g bs e.fid.num h) (λ sp. Make (delete_plan g dd e (file_in g bs e.fid.num h) sp))) held)
+          used_obeys : (held : List (LockName × Mode)) → ((h : Hdr) → used_in e.fid.seq hb ≡ Some h → AreUpTo g bs own 0 held) → Has (held_in PW held) (S dir.num) → Has (held_in PR held) (S e.fid.num)
+              → ((h : Hdr) → used_in e.fid.seq hb ≡ Some h → has_entries (Some (file_told bs g e.fid h)) ≡ false
+              → O (through_space g (file_in g bs e.fid.num h) (λ sp. Make (delete_plan g dd e (file_in g bs e.fid.num h) sp))) (held ++ locks_behind g bs e.fid.num PW))
               → O (looking hb) held
-          used_obeys held in_dir has go = by_used (used_in e.fid.seq hb) refl where
-            by_used : (o : Option Hdr) → used_in e.fid.seq hb ≡ o
-                → O (if_file (entry_removed dd e) (λ f. if_empty f (through_space g f (λ sp. Make (delete_plan g dd e f sp)))) (option_map (seen_file g e.fid.num hb) o)) held
+          used_obeys held low in_dir has go = by_used (used_in e.fid.seq hb) refl where
+            by_used : (o : Option Hdr) → used_in e.fid.seq hb ≡ o → O (if_file (entry_removed dd e) (λ first. through_chain g PW first whole) (option_map (seen_file g e.fid.num hb) o)) held
             by_used None is = lone held in_dir (used_is g bs own c s e.fid number ∙ ap (option_map (λ h. file_told bs g e.fid h)) is)
-            by_used (Some h) is = empty_obeys h is held has (go h is)
+            by_used (Some h) is =
+                chain_obeys x g bs own c s seen Done e.fid.num h number (used_told h is) PW (inr (inl refl)) held (low h is) whole (above h is)
+                (empty_obeys h is (held ++ locks_behind g bs e.fid.num PW) (held_with PR held (locks_behind g bs e.fid.num PW) (S e.fid.num) has) (go h is))
 
           abbrev both_held : List (LockName × Mode)
           both_held = (S dir.num, PW) ∷ (S e.fid.num, PW) ∷ []
+
+          -- directories and files come first
+          dir_low : AreUpTo g bs own 0 first
+          dir_low =
+              let here = file_level g bs own c s dir.num fh listed.number (live_reads dir.seq (head_told (header_block g bs dir.num)) fh listed.header) in
+              up_to_more g bs own 0 0 [] (S dir.num) PW (none_held g bs own 0) (omega arith) (omega arith)
+
+          both_low : (h : Hdr) → used_in e.fid.seq hb ≡ Some h → AreUpTo g bs own 0 both_held
+          both_low h is =
+              let here = file_level g bs own c s e.fid.num h number (reads h is) in
+              up_to_more g bs own 0 0 first (S e.fid.num) PW dir_low (omega arith) (omega arith)
 
           -- its lock comes behind the directory's, unless it is the same
           lock_obeys : (t : Bool) → (e.fid.num == dir.num) ≡ t → O (cond t (Look (S e.fid.num) (header_place g e.fid.num) looking) (Take (S e.fid.num) PW (Look (S e.fid.num) (header_place g e.fid.num) looking))) first
@@ -317,17 +289,18 @@ module _ (dir : Fid) (name : List ℕ) (ver : ℕ) where
               let has : Has (S dir.num ∷ []) (S e.fid.num) = inl (ap S is) in (
                 record { kind = u.kind; guard = u.guard; held = has; within = u.within },
                 λ b at. subst (λ y. O (looking y) first) (header_is g bs e.fid.num (header_place g e.fid.num) b refl at)
-                    (used_obeys first (inl refl) has (λ h used bare. absurd (others h used bare is))),
+                    (used_obeys first (λ h used. dir_low) (inl refl) has (λ h used bare. absurd (others h used bare is))),
               )
           lock_obeys false same =
               let ne : dir.num ≡ e.fid.num → ⊥ = λ is. let same_so : (e.fid.num == dir.num) ≡ true = grind (arith, nat_tests) in cc in
               number_obeys x g bs own c s seen Done first PW (inr (inl refl)) e.fid.num looking
               (λ t. elim t [ inl is ↦ ne (let z : S dir.num ≡ S e.fid.num = is in cc) | inr none ↦ none ])
               (inl (λ t. elim t [ inl is ↦ (let z : S dir.num ≡ Q = is in cc) | inr none ↦ none ]))
-              (λ other t. elim t [ inl is ↦ subst (λ l. IsBefore c l (S e.fid.num)) is (entry_behind g bs own c s dir fh listed name ver e seen_so (grind (arith, nat_tests))) | inr none ↦ absurd none ])
-              number (used_obeys both_held (inl refl) (inr (inl refl)) (λ h used bare. space_obeys h used bare))
+              (λ other t. elim t [ inl is ↦ subst (λ l. IsBefore g bs own c l (S e.fid.num)) is (entry_behind g bs own c s dir fh listed name ver e seen_so (grind (arith, nat_tests))) | inr none ↦ absurd none ])
+              number (used_obeys both_held both_low (inl refl) (inr (inl refl)) (λ h used bare. room_obeys h used bare both_held (both_low h used) (inl refl) (inr (inl refl))))
 
-        named_obeys : (t : Bool) → is_number g e.fid ≡ t → O (cond t (under_lock g dir.num e.fid.num (λ b. if_file (entry_removed dd e) (λ f. if_empty f (through_space g f (λ sp. Make (delete_plan g dd e f sp)))) (option_map (seen_file g e.fid.num b) (used_in e.fid.seq b)))) (entry_removed dd e)) first
+        named_obeys : (t : Bool) → is_number g e.fid ≡ t → O (cond t (under_lock g dir.num e.fid.num (λ b. if_file (entry_removed dd e)
+            (λ first. through_chain g PW first (λ f. if_empty f (through_space g f (λ sp. Make (delete_plan g dd e f sp))))) (option_map (seen_file g e.fid.num b) (used_in e.fid.seq b)))) (entry_removed dd e)) first
         named_obeys true is = lock_obeys (number_is g e.fid is) (e.fid.num == dir.num) refl
         named_obeys false is = lone first (inl refl) (not_used g bs own c s e.fid is)
 

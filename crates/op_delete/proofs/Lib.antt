@@ -10,3 +10,4 @@ pub mod Found
 pub mod Behind
 pub mod Told
 pub mod Empty
+pub mod WholeDirs

@@ -1,6 +1,6 @@
 -- What stands behind a directory tells the file of the entry: its lock, and its header behind which more was seen.
 use Rattle.op_law.specs.SeenFiles.{file_places}
-use Rattle.std.proofs.Common.{◌≡◌, ◌≤◌, ◌-◌, ◌∙◌, ℕ, Bool, true, false, cond, List, [], ◌∷◌, Option, Some, None, length, take, drop, slice_index_or, refl, sym, ap, subst, arith}
+use Rattle.std.proofs.Common.{◌≡◌, ◌≤◌, ◌-◌, ◌/◌, ◌∙◌, ℕ, Bool, true, false, cond, List, [], ◌∷◌, Option, Some, None, length, take, drop, slice_index_or, refl, sym, ap, subst, arith}
 use Rattle.std.specs.Prelude.{◌==◌, nat_le, option_map}
 use Rattle.std.proofs.lemmas.Bool.Decides.{nat_tests}
 use Rattle.std.proofs.lemmas.List.{take_all}
@@ -15,8 +15,10 @@ use Rattle.plain_cat.specs.declared.history.Stage.TheVariants as stage
 use Rattle.plain_cat.specs.declared.reply.Reply.TheVariants as reply
 use Rattle.plain_cat.specs.declared.reply.Refusal.TheVariants as refusal
 use Rattle.plain_rules.specs.Directories.{is_nil}
+use Rattle.plain_rules.specs.Lookups.{extra}
 use Rattle.vol_parts.specs.declared.geometry.Geometry.{Geometry}
-use Rattle.vol_spell.specs.Reading.{header_place}
+use Rattle.vol_spell.specs.Reading.{header_place, fields_told}
+use Rattle.vol_spell.proofs.HeadSlots.{reads_fields}
 use Rattle.op_law.specs.declared.need.Need.TheVariants as need
 use Rattle.op_law.specs.declared.need.Plan.{Plan}
 use Rattle.op_law.specs.declared.seeing.Rest.{Rest}
@@ -27,12 +29,16 @@ use Rattle.op_law.specs.Refusing.{SeenFile, seen_file, used_in, if_file, if_entr
 use Rattle.op_law.specs.Writing.{plan_of}
 use Rattle.op_law.specs.Moving.{SeenDir, removal_writes}
 use Rattle.op_law.specs.Freeing.{through_space}
+use Rattle.op_law.specs.Headers.{through_links}
+use Rattle.op_law.specs.Readable.{AreInside, HeadIsInside}
 use Rattle.op_law.specs.Removing.{under_lock, entry_removed, delete_plan, delete_in}
 use Rattle.op_law.proofs.Telling.{number_is}
 use Rattle.op_delete.specs.declared.naming.Told.{Told}
 use Rattle.op_delete.specs.declared.naming.Told.TheVariants as told
-use Rattle.op_delete.specs.Deleting.{plan_by, file_goes}
-use Rattle.op_delete.specs.Naming.{if_used, file_locked, LockIsOf, IsFirstFile, IsPassed, IsTold}
+use Rattle.op_steps.proofs.Uses.{used_reads}
+use Rattle.op_delete.specs.Deleting.{plan_by, whole_goes, file_goes}
+use Rattle.op_delete.specs.Seeing.{IsFollowed, HeadIsFollowed}
+use Rattle.op_delete.specs.Naming.{if_used, file_locked, LockIsOf, IsLone, IsFirstFile, IsPassed, IsTold}
 
 abbrev Locks : Type 0
 Locks = List (LockName × Mode)
@@ -45,11 +51,28 @@ pub first_is : (bs : Blocks) → 1 ≤ length bs → first_seen bs ≡ Some ((sl
 first_is [] few = absurd (omega arith)
 first_is (b ∷ bs) few = ap (λ (xs : Blocks). Some (b.1, xs)) (sym (take_all (length (b ∷ bs) - 1) bs (omega arith)))
 
+abbrev block_in : Option (Block × Blocks) → Block
+block_in None = []
+block_in (Some p) = p.0
+
+abbrev others_in : Option (Block × Blocks) → Blocks
+others_in None = []
+others_in (Some p) = p.1
+
+-- what holds of the first of what was seen holds of it
+pub first_inside : (bs : Blocks) (b : Block) (behind : Blocks) → first_seen bs ≡ Some (b, behind) → HeadIsInside bs → AreInside b
+first_inside [] b behind e inside = absurd (let none : ◌≡◌ {A = Option (Block × Blocks)} None (Some (b, behind)) = e in cc)
+first_inside (x ∷ xs) b behind e inside = subst AreInside (ap block_in e) inside
+
+pub first_followed : (g : Geometry) (bs : Blocks) (b : Block) (behind : Blocks) → first_seen bs ≡ Some (b, behind) → HeadIsFollowed g bs → IsFollowed g b behind
+first_followed g [] b behind e followed = absurd (let none : ◌≡◌ {A = Option (Block × Blocks)} None (Some (b, behind)) = e in cc)
+first_followed g (x ∷ xs) b behind e followed = subst (IsFollowed g b) (ap others_in e) (subst (λ (y : Block). IsFollowed g y xs) (ap block_in e) followed)
+
 -- a lock or a block was seen
 abbrev pub IsMore : Locks → Blocks → Type 0
 IsMore locks blocks = locks ≡ [] → blocks ≡ [] → ⊥
 
--- ---- the first lock behind the header is no file's
+-- ---- the first lock behind the header of a file that has no other header is no file's
 
 looks_first : (name : LockName) (ls : List ℕ) (next : List Block → Events) (l : LockName × Mode) (locks : Locks) (space : Space) (given : Type 0)
     → ((bs : List Block) (blocks : Blocks) → Follows (next bs) (l ∷ locks) blocks space given → ⊥) → (blocks : Blocks) → Follows (look_all name ls next) (l ∷ locks) blocks space given → ⊥
@@ -68,8 +91,8 @@ module _ (g : Geometry) (d : SeenDir) (o : Option DirEnt) (f : SeenFile) (m : �
   room_first : (blocks : Blocks) → Follows room ((S m, mode) ∷ locks) blocks space given → ⊥
   room_first blocks fs = let t : true ≡ false = ap (λ (l : LockName × Mode). is_file l.0) fs.0 in cc
 
-  pub file_first : (blocks : Blocks) → Follows (file_goes g d o f) ((S m, mode) ∷ locks) blocks space given → ⊥
-  file_first blocks fs = by_dir f.file.dir fs where
+  whole_first : (blocks : Blocks) → Follows (whole_goes g d o f) ((S m, mode) ∷ locks) blocks space given → ⊥
+  whole_first blocks fs = by_dir f.file.dir fs where
     by_nil : (t : Bool) (xs : Blocks) → Follows (cond t room (refuses refusal.DirNotEmpty)) ((S m, mode) ∷ locks) xs space given → ⊥
     by_nil true xs fs = room_first xs fs
     by_nil false xs fs = absurd (let t : length ((S m, mode) ∷ locks) ≡ 0 = ap length fs.0 in omega arith)
@@ -77,6 +100,9 @@ module _ (g : Geometry) (d : SeenDir) (o : Option DirEnt) (f : SeenFile) (m : �
     by_dir : (t : Bool) → Follows (cond t (look_all (S f.num) (file_places f) (λ bs. cond (is_nil (entries_seen bs)) room (refuses refusal.DirNotEmpty))) room) ((S m, mode) ∷ locks) blocks space given → ⊥
     by_dir true fs = looks_first (S f.num) (file_places f) (λ bs. cond (is_nil (entries_seen bs)) room (refuses refusal.DirNotEmpty)) (S m, mode) locks space given (λ bs. by_nil (is_nil (entries_seen bs))) blocks fs
     by_dir false fs = room_first blocks fs
+
+  pub file_first : extra f.file.clusters ≡ 0 → (blocks : Blocks) → Follows (file_goes g d o f) ((S m, mode) ∷ locks) blocks space given → ⊥
+  file_first lone blocks fs = whole_first blocks (subst (λ k. Follows (through_links g PW k f.head f (whole_goes g d o)) ((S m, mode) ∷ locks) blocks space given) lone fs)
 
 -- ---- behind a directory
 
@@ -155,20 +181,21 @@ module _ (g : Geometry) (d : SeenDir) (o : Option DirEnt) (space : Space) (given
   first e = header g d o [] [] space given e
 
   -- where the first lock is a file's it is another file, since behind the directory's own header no such lock comes
-  pub locked_so : (m : ℕ) (mode : Mode) (locks : Locks) (blocks : Blocks) → Follows (if_entry o (delete_in g d)) ((S m, mode) ∷ locks) blocks space given → AtLock g d o m
-  locked_so m mode locks blocks fs = by_there (there g d o ((S m, mode) ∷ locks) blocks space given (λ none. absurd (no_lock (S m, mode) locks none)) fs) where
-    by_used : (e : DirEnt) (b : Block) (xs : Blocks) (x : Option Hdr) → Follows (if_file (Make (removed d e)) (file_goes g d o) (option_map (seen_file g e.fid.num b) x)) ((S m, mode) ∷ locks) xs space given → ⊥
-    by_used e b xs None fs = no_lock (S m, mode) locks fs.0
-    by_used e b xs (Some h) fs = file_first g d o (seen_file g e.fid.num b h) m mode locks space given xs fs
+  pub locked_so : (m : ℕ) (mode : Mode) (locks : Locks) (blocks : Blocks) → IsLone g d.fid.num blocks → Follows (if_entry o (delete_in g d)) ((S m, mode) ∷ locks) blocks space given → AtLock g d o m
+  locked_so m mode locks blocks lone fs = by_there (there g d o ((S m, mode) ∷ locks) blocks space given (λ none. absurd (no_lock (S m, mode) locks none)) fs) where
+    by_used : (e : DirEnt) (b : Block) (xs : Blocks) (x : Option Hdr) → used_in e.fid.seq b ≡ x → ((h : Hdr) → fields_told b ≡ Some h → extra (h.blocks / g.cluster) ≡ 0)
+        → Follows (if_file (Make (removed d e)) (file_goes g d o) (option_map (seen_file g e.fid.num b) x)) ((S m, mode) ∷ locks) xs space given → ⊥
+    by_used e b xs None is one fs = no_lock (S m, mode) locks fs.0
+    by_used e b xs (Some h) is one fs = file_first g d o (seen_file g e.fid.num b h) m mode locks space given (one h (reads_fields b h (used_reads e.fid.seq b h is))) xs fs
 
-    by_blocks : (e : DirEnt) (xs : Blocks) → Follows (first e) ((S m, mode) ∷ locks) xs space given → ⊥
-    by_blocks e [] fs = no_lock (S m, mode) locks fs.0
-    by_blocks e (x ∷ xs) fs = by_used e x.1 xs (used_in e.fid.seq x.1) fs.1
+    by_blocks : (e : DirEnt) → e.fid.num ≡ d.fid.num → (xs : Blocks) → IsLone g d.fid.num xs → Follows (first e) ((S m, mode) ∷ locks) xs space given → ⊥
+    by_blocks e own [] one fs = no_lock (S m, mode) locks fs.0
+    by_blocks e own (x ∷ xs) one fs = by_used e x.1 xs (used_in e.fid.seq x.1) refl (one (fs.0 ∙ ap (header_place g) own)) fs.1
 
     by_same : (t : IsThere g d o) (u : Bool) → (t.e.fid.num == d.fid.num) ≡ u → AtLock g d o m
     by_same t true same =
         let is : if_entry o (delete_in g d) ≡ first t.e = t.is ∙ ap (λ u. cond u (first t.e) (Take (S t.e.fid.num) PW (first t.e))) same in
-        absurd (by_blocks t.e blocks (subst (λ es. Follows es ((S m, mode) ∷ locks) blocks space given) is fs))
+        absurd (by_blocks t.e (grind (arith, nat_tests)) blocks lone (subst (λ es. Follows es ((S m, mode) ∷ locks) blocks space given) is fs))
     by_same t false other =
         let is : if_entry o (delete_in g d) ≡ Take (S t.e.fid.num) PW (first t.e) = t.is ∙ ap (λ u. cond u (first t.e) (Take (S t.e.fid.num) PW (first t.e))) other in
         let taken : Follows (Take (S t.e.fid.num) PW (first t.e)) ((S m, mode) ∷ locks) blocks space given = subst (λ es. Follows es ((S m, mode) ∷ locks) blocks space given) is fs in
@@ -208,11 +235,11 @@ module _ (g : Geometry) (d : SeenDir) (o : Option DirEnt) (space : Space) (given
       header.0
 
   -- the first lock is of a number of the volume
-  pub lock_so : (locks : Locks) (blocks : Blocks) → Follows (if_entry o (delete_in g d)) locks blocks space given → LockIsOf g locks
-  lock_so [] blocks fs = tt
-  lock_so (k ∷ ks) blocks fs = by_name k.0 k.1 fs where
+  pub lock_so : (locks : Locks) (blocks : Blocks) → IsLone g d.fid.num blocks → Follows (if_entry o (delete_in g d)) locks blocks space given → LockIsOf g locks
+  lock_so [] blocks lone fs = tt
+  lock_so (k ∷ ks) blocks lone fs = by_name k.0 k.1 fs where
     by_name : (name : LockName) (mode : Mode) → Follows (if_entry o (delete_in g d)) ((name, mode) ∷ ks) blocks space given → LockIsOf g ((name, mode) ∷ ks)
-    by_name (S n) mode fs = (locked_so n mode ks blocks fs).number
+    by_name (S n) mode fs = (locked_so n mode ks blocks lone fs).number
     by_name (A n) mode fs = tt
     by_name Q mode fs = tt
     by_name X mode fs = tt
@@ -263,16 +290,17 @@ module _ (g : Geometry) (d : SeenDir) (o : Option DirEnt) (space : Space) (rest 
   pub next_told : (n : ℕ) (behind : Locks) → file_locked rest.locks.now ≡ Some (n, behind) → rest.blocks.now ≡ [] → goes_on_by es rest space ≡ need.Block (S n) (header_place g n)
   next_told n behind locked none =
       let l = locked_is n rest.locks.now behind locked in
-      let at = locked_so g d o space (HasNoSpace space) n l.mode behind [] (subst (λ ks. Follows es ks [] space (HasNoSpace space)) l.is (subst (λ bs. Follows es rest.locks.now bs space (HasNoSpace space)) none follows)) in
+      let at = locked_so g d o space (HasNoSpace space) n l.mode behind [] tt (subst (λ ks. Follows es ks [] space (HasNoSpace space)) l.is (subst (λ bs. Follows es rest.locks.now bs space (HasNoSpace space)) none follows)) in
       ap (λ bs. following es rest.locks.now bs space) none ∙ ap (λ ks. following es ks [] space) l.is ∙ ap (λ x. following x ((S n, l.mode) ∷ behind) [] space) at.is
 
   -- what was told behind it
-  pub lock_told : (n : ℕ) (behind : Rest) (r : Told) → file_locked rest.locks.now ≡ Some (n, behind.locks.now) → behind.blocks.now ≡ rest.blocks.now → TellsHeader n behind r → IsTold g d o rest space r
-  lock_told n behind r locked same tells =
+  pub lock_told : (n : ℕ) (behind : Rest) (r : Told) → file_locked rest.locks.now ≡ Some (n, behind.locks.now) → behind.blocks.now ≡ rest.blocks.now → IsLone g d.fid.num rest.blocks.now → TellsHeader n behind r
+      → IsTold g d o rest space r
+  lock_told n behind r locked same lone tells =
       let l = locked_is n rest.locks.now behind.locks.now locked in
       let held : Follows es ((S n, l.mode) ∷ behind.locks.now) behind.blocks.now space (HasNoSpace space) =
       subst (λ bs. Follows es ((S n, l.mode) ∷ behind.locks.now) bs space (HasNoSpace space)) (sym same) (subst (λ ks. Follows es ks rest.blocks.now space (HasNoSpace space)) l.is follows) in
-      let at = locked_so g d o space (HasNoSpace space) n l.mode behind.locks.now behind.blocks.now held in
+      let at = locked_so g d o space (HasNoSpace space) n l.mode behind.locks.now behind.blocks.now (subst (IsLone g d.fid.num) (sym same) lone) held in
       let header : Events = header_of n at.seq at.plan in
       let path : goes_on_by es rest space ≡ goes_on_by header behind space =
       ap (λ ks. following es ks rest.blocks.now space) l.is ∙ ap (λ bs. following es ((S n, l.mode) ∷ behind.locks.now) bs space) (sym same)
@@ -290,9 +318,9 @@ module _ (g : Geometry) (d : SeenDir) (o : Option DirEnt) (space : Space) (rest 
             (omega arith, omega arith)
 
   -- what was told where the first lock is no file's
-  pub header_told : (r : Told) → file_locked rest.locks.now ≡ None → IsFirstFile d.fid.num rest r → TellsHeader d.fid.num rest r → IsTold g d o rest space r
+  pub header_told : (r : Told) → file_locked rest.locks.now ≡ None → IsFirstFile g d.fid.num rest r → TellsHeader d.fid.num rest r → IsTold g d o rest space r
   header_told r none file tells = by_blocks rest.blocks.now refl where
-    no_head : (r : Told) → rest.blocks.now ≡ [] → IsFirstFile d.fid.num rest r → IsTold g d o rest space r
+    no_head : (r : Told) → rest.blocks.now ≡ [] → IsFirstFile g d.fid.num rest r → IsTold g d o rest space r
     no_head (told.File f more) empty file = absurd (let t : None ≡ Some (f.head.now, more.blocks.now) = ap first_seen (sym empty) ∙ file.head in cc)
     no_head (told.Next n) empty file = absurd file
     no_head (told.Nothing) empty file =

@@ -1,5 +1,5 @@
 -- What holds at the end of each row of events of a DELETE, and what its plans leave outside.
-use Rattle.std.proofs.Common.{◌≡◌, ◌+◌, ◌*◌, ◌∙◌, inl, inr, ℕ, Bool, true, false, cond, List, [], ◌∷◌, ◌++◌, Option, Some, None, map, length, take, refl, sym, ap, subst, arith}
+use Rattle.std.proofs.Common.{◌≡◌, ◌∙◌, inl, inr, ℕ, Bool, true, false, cond, List, [], ◌∷◌, ◌++◌, Option, Some, None, map, length, take, refl, sym, ap, subst, arith}
 use Rattle.std.specs.Prelude.{◌==◌, nat_le, option_map}
 use Rattle.std.proofs.lemmas.Bool.Decides.{nat_tests}
 use Rattle.std.proofs.lemmas.List.{length-map, length-append}
@@ -17,7 +17,7 @@ use Rattle.plain_cat.specs.declared.command.Cmd.TheVariants as cmd
 use Rattle.plain_cat.specs.declared.history.Stage.TheVariants as stage
 use Rattle.plain_cat.specs.declared.reply.Refusal.{Refusal}
 use Rattle.plain_cat.specs.declared.reply.Refusal.TheVariants as refusal
-use Rattle.plain_rules.specs.Lookups.{versions, entry_of}
+use Rattle.plain_rules.specs.Lookups.{versions, entry_of, extra}
 use Rattle.plain_rules.specs.Directories.{is_nil}
 use Rattle.base_words.specs.Lists.{Has}
 use Rattle.vol_spell.specs.Owners.{Things, nothing}
@@ -37,14 +37,15 @@ use Rattle.vol_spell.specs.Entries.{places_in}
 use Rattle.op_law.specs.Refusing.{SeenFile, seen_file, used_in, if_file, if_entry}
 use Rattle.op_law.specs.Writing.{empty_handed, header_write}
 use Rattle.op_law.specs.Moving.{SeenDir, entries_of, through_names, removal_writes}
-use Rattle.op_law.specs.SeenFiles.{file_clusters, file_places}
+use Rattle.op_law.specs.SeenFiles.{file_places}
+use Rattle.op_law.specs.Headers.{through_chain}
 use Rattle.op_law.specs.Freeing.{SeenSpace, blocks_for, all_clusters, through_space, freeing_writes}
 use Rattle.op_law.specs.Removing.{under_lock, if_empty, marking_writes, unnaming_writes, delete_plan, entry_removed, delete_in, delete_events}
 use Rattle.op_law.proofs.Asking.{EveryEnd, IsShapedBy}
 use Rattle.op_law.proofs.Ends.{EndsBy, outs_behind, nothing_given}
+use Rattle.op_law.proofs.Links.{held_with, links_held_so}
 use Rattle.op_law.proofs.RemovalEnds.{LeaveNothing, both_leave_nothing, nothing_left, removal_leaves_nothing}
-use Rattle.op_freeing.proofs.Endings.{rising_clusters}
-use Rattle.op_freeing.proofs.Tails.{tail_ends}
+use Rattle.op_freeing.proofs.GoneSteps.{gone_ends}
 use Rattle.op_delete.proofs.Slots.{first_writes}
 
 -- ---- what its plans leave outside
@@ -61,14 +62,9 @@ first_leave_nothing g d e f =
     both_leave_nothing (marking_writes g f) (removal_writes d e (cond f.file.marked stage.Nothing stage.Marked) stage.Unlinked)
     (mark_leaves_nothing g f) (removal_leaves_nothing d e (cond f.file.marked stage.Nothing stage.Marked) stage.Unlinked)
 
-freeing_outs : (g : Geometry) (f : SeenFile) (s : SeenSpace) → length s.storage ≡ length (blocks_for g (all_clusters g f)) → (o : Things) → outs_after o (map planned (freeing_writes g f s)) ≡ nothing
-unfolding freeing_writes
-freeing_outs g f s len o =
-    tail_ends g stage.Freed (all_clusters g f) (f.num ∷ []) s.storage s.index s.quota f.file.owner (g.cluster * f.file.clusters + 1) stage.Done (rising_clusters g (file_clusters g f)).0 len
-
 pub whole_outs : (g : Geometry) (d : SeenDir) (e : DirEnt) (f : SeenFile) (s : SeenSpace) → length s.storage ≡ length (blocks_for g (all_clusters g f)) → (o : Things)
     → outs_after o (map planned (unnaming_writes g d e f ++ freeing_writes g f s)) ≡ nothing
-whole_outs g d e f s len o = outs_behind (unnaming_writes g d e f) (freeing_writes g f s) o nothing (freeing_outs g f s len)
+whole_outs g d e f s len o = outs_behind (unnaming_writes g d e f) (freeing_writes g f s) o nothing (λ t. gone_ends g f s t len)
 
 module _ (dir : Fid) (name : List ℕ) (ver : ℕ) where
   abbrev x : Cmd
@@ -95,17 +91,22 @@ module _ (dir : Fid) (name : List ℕ) (ver : ℕ) where
     all_so lock [] next held so = so [] refl
     all_so lock (l ∷ ls) next held so = looks lock l (λ b. look_all lock ls (λ bs. next (b ∷ bs))) held (λ b. all_so lock ls (λ bs. next (b ∷ bs)) held (λ bs e. so (b ∷ bs) (omega arith)))
 
-    space_so : (d : SeenDir) (e : DirEnt) (f : SeenFile) (held : Held) → Has (held_in PW ((held ++ (Q, PW) ∷ []) ++ (V, PW) ∷ [])) (S f.num) → T (through_space g f (λ s. Make (delete_plan g d e f s))) held
+    space_so : (d : SeenDir) (e : DirEnt) (f : SeenFile) (held : Held) → Has (held_in PW held) (S f.num) → T (through_space g f (λ s. Make (delete_plan g d e f s))) held
     space_so d e f held has =
         let ks = blocks_for g (all_clusters g f) in
-        takes Q PW _ held (all_so Q (quota_places g) _ (held ++ (Q, PW) ∷ []) (λ quota q.
-        takes V PW _ (held ++ (Q, PW) ∷ []) (looks V (place_of g IndexBitmap) _ ((held ++ (Q, PW) ∷ []) ++ (V, PW) ∷ []) (λ index.
-        all_so V (map (λ k. place_of g (Storage k)) ks) _ ((held ++ (Q, PW) ∷ []) ++ (V, PW) ∷ []) (λ storage len.
-        whole d e f (record { quota = quota; index = index; storage = storage }) ((held ++ (Q, PW) ∷ []) ++ (V, PW) ∷ []) (len ∙ length-map ks (λ k. place_of g (Storage k))) has)))))
+        let with_q = held ++ (Q, PW) ∷ [] in
+        let last = with_q ++ (V, PW) ∷ [] in
+        takes Q PW _ held (all_so Q (quota_places g) _ with_q (λ quota q.
+        takes V PW _ with_q (looks V (place_of g IndexBitmap) _ last (λ index.
+        all_so V (map (λ k. place_of g (Storage k)) ks) _ last (λ storage len.
+        whole d e f (record { quota = quota; index = index; storage = storage }) last (len ∙ length-map ks (λ k. place_of g (Storage k)))
+        (held_with PW with_q ((V, PW) ∷ []) (S f.num) (held_with PW held ((Q, PW) ∷ []) (S f.num) has)))))))
 
-    file_so : (d : SeenDir) (e : DirEnt) (f : SeenFile) (held : Held) → Has (held_in PW ((held ++ (Q, PW) ∷ []) ++ (V, PW) ∷ [])) (S f.num)
-        → T (if_empty f (through_space g f (λ s. Make (delete_plan g d e f s)))) held
-    file_so d e f held has = by_dir f.file.dir where
+    abbrev goes : SeenDir → DirEnt → SeenFile → Events
+    goes d e f = if_empty f (through_space g f (λ s. Make (delete_plan g d e f s)))
+
+    empty_so : (d : SeenDir) (e : DirEnt) (f : SeenFile) (held : Held) → Has (held_in PW held) (S f.num) → T (goes d e f) held
+    empty_so d e f held has = by_dir f.file.dir where
       next : Events
       next = through_space g f (λ s. Make (delete_plan g d e f s))
 
@@ -117,10 +118,14 @@ module _ (dir : Fid) (name : List ℕ) (ver : ℕ) where
       by_dir true = all_so (S f.num) (file_places f) _ held (λ bs len. by_nil (is_nil (entries_seen bs)))
       by_dir false = space_so d e f held has
 
-    used_so : (d : SeenDir) (e : DirEnt) (b : Block) (held : Held) → Has (held_in PW ((held ++ (Q, PW) ∷ []) ++ (V, PW) ∷ [])) (S e.fid.num)
-        → T (if_file (entry_removed d e) (λ f. if_empty f (through_space g f (λ s. Make (delete_plan g d e f s)))) (option_map (seen_file g e.fid.num b) (used_in e.fid.seq b))) held
+    file_so : (d : SeenDir) (e : DirEnt) (f : SeenFile) (held : Held) → Has (held_in PW held) (S f.num) → T (through_chain g PW f (goes d e)) held
+    file_so d e f held has =
+        links_held_so T takes looks g PW (extra f.file.clusters) f.head f (goes d e) held (λ rest more len. empty_so d e (record f { rest = rest }) (held ++ more) (held_with PW held more (S f.num) has))
+
+    used_so : (d : SeenDir) (e : DirEnt) (b : Block) (held : Held) → Has (held_in PW held) (S e.fid.num)
+        → T (if_file (entry_removed d e) (λ first. through_chain g PW first (goes d e)) (option_map (seen_file g e.fid.num b) (used_in e.fid.seq b))) held
     used_so d e b held has = by_used (used_in e.fid.seq b) where
-      by_used : (o : Option Hdr) → T (if_file (entry_removed d e) (λ f. if_empty f (through_space g f (λ s. Make (delete_plan g d e f s)))) (option_map (seen_file g e.fid.num b) o)) held
+      by_used : (o : Option Hdr) → T (if_file (entry_removed d e) (λ first. through_chain g PW first (goes d e)) (option_map (seen_file g e.fid.num b) o)) held
       by_used None = lone d e held
       by_used (Some h) = file_so d e (seen_file g e.fid.num b h) held has
 
@@ -130,7 +135,7 @@ module _ (dir : Fid) (name : List ℕ) (ver : ℕ) where
     named_so : (d : SeenDir) (e : DirEnt) → d.fid.num ≡ dir.num → T (delete_in g d e) first
     named_so d e of = by_number (is_number g e.fid) where
       next : Block → Events
-      next b = if_file (entry_removed d e) (λ f. if_empty f (through_space g f (λ s. Make (delete_plan g d e f s)))) (option_map (seen_file g e.fid.num b) (used_in e.fid.seq b))
+      next b = if_file (entry_removed d e) (λ first. through_chain g PW first (goes d e)) (option_map (seen_file g e.fid.num b) (used_in e.fid.seq b))
 
       by_same : (t : Bool) → (e.fid.num == d.fid.num) ≡ t
           → T (cond t (Look (S e.fid.num) (header_place g e.fid.num) next) (Take (S e.fid.num) PW (Look (S e.fid.num) (header_place g e.fid.num) next))) first

@@ -5,6 +5,7 @@ use Rattle.fx_dir.specs.Entries.{has}
 use Rattle.fx_dir.specs.Directory.{directory}
 use Rattle.fx_dir.specs.Moves.{key}
 use Rattle.plain_cat.specs.declared.entries.DirEnt.{DirEnt}
+use Rattle.plain_cat.specs.declared.mode.Mode.TheVariants.{PW}
 use Rattle.plain_cat.specs.declared.reply.Reply.TheVariants as reply
 use Rattle.plain_cat.specs.declared.reply.Refusal.TheVariants as refusal
 use Rattle.vol_parts.specs.declared.geometry.Geometry.{Geometry}
@@ -14,6 +15,7 @@ use Rattle.op_law.specs.Rows.{plain_plan}
 use Rattle.op_law.specs.Refusing.{SeenFile}
 use Rattle.op_law.specs.Moving.{SeenDir}
 use Rattle.op_law.specs.Freeing.{through_space}
+use Rattle.op_law.specs.Headers.{through_chain}
 use Rattle.op_law.specs.Removing.{if_empty, delete_plan}
 use Rattle.op_law.specs.Behind.{blocks_alone}
 use Rattle.op_law.specs.Readable.{IsRead}
@@ -32,6 +34,10 @@ abbrev pub plan_by : (DirEnt → Plan) → Option DirEnt → Plan
 plan_by plan None = plain_plan (reply.Refused refusal.NoSuchFile)
 plan_by plan (Some e) = plan e
 
--- behind the header of its file: the blocks of a directory, the space that becomes free, and the plan
+-- behind all headers of its file: the blocks of a directory, the space that becomes free, and the plan
+abbrev pub whole_goes : Geometry → SeenDir → Option DirEnt → SeenFile → Events
+whole_goes g d o f = if_empty f (through_space g f (λ s. Make (plan_by (λ e. delete_plan g d e f s) o)))
+
+-- behind the first of them: the others, and what comes there
 abbrev pub file_goes : Geometry → SeenDir → Option DirEnt → SeenFile → Events
-file_goes g d o f = if_empty f (through_space g f (λ s. Make (plan_by (λ e. delete_plan g d e f s) o)))
+file_goes g d o f = through_chain g PW f (whole_goes g d o)

@@ -1,5 +1,5 @@
 -- The own blocks of a directory, which the command has looked at before it goes.
-use Rattle.std.specs.Prelude.{List, if◌then◌else◌}
+use Rattle.std.specs.Prelude.{◌≡◌, true, List, length, if◌then◌else◌}
 use Rattle.base_words.specs.Fields.{Block}
 use Rattle.plain_cat.specs.declared.reply.Refusal.TheVariants as refusal
 use Rattle.plain_rules.specs.Directories.{is_nil}
@@ -7,8 +7,15 @@ use Rattle.op_law.specs.declared.need.Need.{Need}
 use Rattle.op_law.specs.Events.{Events, Space as Given}
 use Rattle.op_law.specs.Rows.{refuses, entries_seen}
 use Rattle.op_law.specs.Behind.{goes_on_by}
+use Rattle.fx_header.specs.Pointers.{lbns_in}
+use Rattle.op_steps.specs.Seeing.{file_runs}
+use Rattle.op_steps.specs.declared.seeing.FileSeen.{FileSeen}
 use Rattle.op_delete.specs.declared.looking.Empty.{Empty}
 use Rattle.op_delete.specs.declared.looking.Empty.TheVariants as empty
+
+-- all runs of a directory were seen
+abbrev pub IsWholeDir : FileSeen → Type 0
+IsWholeDir f = f.fields.dir ≡ true → length (lbns_in (file_runs f)) ≡ f.fields.blocks
 
 -- behind these blocks of a directory, which show no entry
 abbrev pub without_entries : List Block → Events → Events

@@ -19,8 +19,11 @@ ghost use Rattle.op_law.specs.Removing.{delete_plan, delete_in, delete_events};
 ghost use Rattle.op_steps.specs.Names.{dir_seen, IsReadable as IsDirReadable};
 ghost use Rattle.op_steps.specs.Seeing.{file_seen, IsReadable};
 ghost use Rattle.op_freeing.specs.Looking.{space_seen, IsWhole};
-ghost use Rattle.op_delete.specs.Deleting.{plan_by, file_goes, CanGo};
-ghost use Rattle.op_delete.specs.Naming.{LockIsOf};
+ghost use Rattle.op_freeing.specs.Seeing.{HasNumbers};
+ghost use Rattle.op_delete.specs.Deleting.{plan_by, whole_goes, file_goes, CanGo};
+ghost use Rattle.op_delete.specs.Looking.{IsWholeDir};
+ghost use Rattle.op_delete.specs.Naming.{LockIsOf, IsLone};
+ghost use Rattle.op_delete.specs.Seeing.{IsBegun, HeadIsFollowed};
 
 use crate::looking::{Empty, empty_seen};
 use crate::naming::{Told, file_told};
@@ -28,7 +31,7 @@ use crate::seeing::{Named, named_seen};
 use crate::writing::push_unnaming;
 use op_freeing::{Space, SpaceSeen, all_clusters, push_gone, space_seen};
 use op_law::{Ask, Need, NoMemory, Plan, Rest, Seen, Writes, entry_seen, refused};
-use op_steps::{DirSeen, FileSeen, Names, names_seen, push_removal};
+use op_steps::{Chained, DirSeen, FileSeen, Names, chain_seen, names_seen, push_removal};
 use plain_cat::{Clusters, DirEnt, Fid, Mode, Name, Refusal, Reply, Stage};
 use std::alloc::Global;
 use vol_parts::Geometry;
@@ -59,7 +62,7 @@ fn deleted(
 ) -> Result<Plan, NoMemory>
     requires geometry { IsGeometry g.now }
     requires entry { CanGo d.now e.now }
-    requires number { f.now.num ≤ g.now.files }
+    requires numbers { HasNumbers g.now f.now }
     requires readable { IsReadable f.now }
     requires clusters { clusters.now ≡ all_clusters g.now (file_seen g.now f.now) }
     requires whole { IsWhole g.now clusters.now space.now }
@@ -97,7 +100,7 @@ fn deleted_by(
     requires dir { IsDirReadable d.now }
     requires read { IsRead d.now.blocks.now }
     requires few { length d.now.blocks.now ≤ 16 }
-    requires number { f.now.num ≤ g.now.files }
+    requires numbers { HasNumbers g.now f.now }
     requires readable { IsReadable f.now }
     requires clusters { clusters.now ≡ all_clusters g.now (file_seen g.now f.now) }
     requires whole { IsWhole g.now clusters.now space.now }
@@ -124,7 +127,7 @@ fn space_looked(
     requires dir { IsDirReadable d.now }
     requires read { IsRead d.now.blocks.now }
     requires few { length d.now.blocks.now ≤ 16 }
-    requires number { f.now.num ≤ g.now.files }
+    requires numbers { HasNumbers g.now f.now }
     requires readable { IsReadable f.now }
     ensures { IfOk result (λ need. (given : Given) → goes_on_by (through_space g.now (file_seen g.now f.now)
         (λ s. Make (plan_by (λ e. delete_plan g.now (dir_seen d.now) e (file_seen g.now f.now) s) (entry_of (versions name.now (entries_of (dir_seen d.now))) ver)))) rest.entry given ≡ need) }
@@ -136,7 +139,33 @@ fn space_looked(
     }
 }
 
-// Behind the header of the file.
+// Behind all headers of the file.
+fn whole_looked(
+    alloc: Global,
+    g: &Geometry,
+    d: &DirSeen<'_>,
+    name: &Name,
+    ver: u16,
+    f: &FileSeen<'_>,
+    rest: Rest<'_>,
+) -> Result<Need, NoMemory>
+    requires geometry { IsGeometry g.now }
+    requires dir { IsDirReadable d.now }
+    requires read { IsRead d.now.blocks.now }
+    requires few { length d.now.blocks.now ≤ 16 }
+    requires numbers { HasNumbers g.now f.now }
+    requires readable { IsReadable f.now }
+    requires whole { IsWholeDir f.now }
+    ensures { IfOk result (λ need. (given : Given) → FollowsBy (whole_goes g.now (dir_seen d.now) (entry_of (versions name.now (entries_of (dir_seen d.now))) ver) (file_seen g.now f.now)) rest.entry given
+        → goes_on_by (whole_goes g.now (dir_seen d.now) (entry_of (versions name.now (entries_of (dir_seen d.now))) ver) (file_seen g.now f.now)) rest.entry given ≡ need) }
+{
+    match empty_seen(alloc, g, f, rest)? {
+        Empty::Next(need) => Ok(need),
+        Empty::Shown(behind) => space_looked(alloc, g, d, name, ver, f, behind),
+    }
+}
+
+// Behind the first header of the file.
 fn file_looked(
     alloc: Global,
     g: &Geometry,
@@ -150,14 +179,13 @@ fn file_looked(
     requires dir { IsDirReadable d.now }
     requires read { IsRead d.now.blocks.now }
     requires few { length d.now.blocks.now ≤ 16 }
-    requires number { f.now.num ≤ g.now.files }
-    requires readable { IsReadable f.now }
+    requires begun { IsBegun g.now f.now rest.blocks.now }
     ensures { IfOk result (λ need. (given : Given) → FollowsBy (file_goes g.now (dir_seen d.now) (entry_of (versions name.now (entries_of (dir_seen d.now))) ver) (file_seen g.now f.now)) rest.entry given
         → goes_on_by (file_goes g.now (dir_seen d.now) (entry_of (versions name.now (entries_of (dir_seen d.now))) ver) (file_seen g.now f.now)) rest.entry given ≡ need) }
 {
-    match empty_seen(alloc, g, f, rest)? {
-        Empty::Next(need) => Ok(need),
-        Empty::Shown(behind) => space_looked(alloc, g, d, name, ver, f, behind),
+    match chain_seen(g, Mode::PW, f, rest) {
+        Chained::Next(need) => Ok(need),
+        Chained::File(whole, behind) => whole_looked(alloc, g, d, name, ver, &whole, behind),
     }
 }
 
@@ -176,6 +204,7 @@ fn delete_in(
     requires read { IsRead d.now.blocks.now }
     requires found { entry_of (versions name.now (entries_of (dir_seen d.now))) ver ≡ Some e.now }
     requires inside { HeadIsInside rest.blocks.now }
+    requires followed { HeadIsFollowed g.now rest.blocks.now }
     ensures { IfOk result (λ need. (given : Given) → FollowsBy (delete_in g.now (dir_seen d.now) e.now) rest.entry given → goes_on_by (delete_in g.now (dir_seen d.now) e.now) rest.entry given ≡ need) }
 {
     match named_seen(g, d.fid.num, e.fid, rest) {
@@ -202,6 +231,7 @@ fn entry_looked(
     requires read { IsRead d.now.blocks.now }
     requires few { length d.now.blocks.now ≤ 16 }
     requires inside { HeadIsInside rest.blocks.now }
+    requires followed { HeadIsFollowed g.now rest.blocks.now }
     ensures { IfOk result (λ need. (given : Given) → FollowsBy (if_entry (entry_of (versions name.now (entries_of (dir_seen d.now))) ver) (delete_in g.now (dir_seen d.now))) rest.entry given
         → goes_on_by (if_entry (entry_of (versions name.now (entries_of (dir_seen d.now))) ver) (delete_in g.now (dir_seen d.now))) rest.entry given ≡ need) }
 {
@@ -230,6 +260,8 @@ fn dir_looked(
     requires number { d.now.fid.num ≤ g.now.files }
     requires locked { LockIsOf g.now rest.locks.now }
     requires inside { HeadIsInside rest.blocks.now }
+    requires followed { HeadIsFollowed g.now rest.blocks.now }
+    requires lone { IsLone g.now d.now.fid.num rest.blocks.now }
     ensures { IfOk result (λ need. (given : Given) → FollowsBy (if_entry (entry_of (versions name.now (entries_of (dir_seen d.now))) ver) (delete_in g.now (dir_seen d.now))) rest.entry given
         → goes_on_by (if_entry (entry_of (versions name.now (entries_of (dir_seen d.now))) ver) (delete_in g.now (dir_seen d.now))) rest.entry given ≡ need) }
 {

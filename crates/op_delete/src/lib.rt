@@ -7,8 +7,8 @@
 //! let need = op.next(alloc, &seen)?;
 //! ```
 //!
-//! `next` gives exactly the next need: the directory and the file, each under its lock in PW, Q and the quota blocks, V and the
-//! bitmaps, and the plan. The plan asks who has the file open: if nobody has, the file goes; if not, it stays, marked for delete.
+//! `next` gives exactly the next need: the directory, the headers of the file, each under its lock in PW, Q and the quota blocks, V
+//! and the bitmaps, and the plan. The plan asks who has the file open: if nobody has, the file goes; if not, it stays, marked for delete.
 //! Each DELETE obeys the law of a command (`delete_obeys_the_law`).
 //!
 //! `xqp_set` joins it to the other commands.

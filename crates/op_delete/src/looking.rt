@@ -5,7 +5,7 @@ ghost use Rattle.op_law.specs.Events.{Events, Space as Given, following};
 ghost use Rattle.op_law.specs.Behind.{blocks_alone, FollowsBy};
 ghost use Rattle.op_law.specs.Removing.{if_empty};
 ghost use Rattle.op_steps.specs.Seeing.{file_seen, IsReadable};
-ghost use Rattle.op_delete.specs.Looking.{without_entries, behind_empty};
+ghost use Rattle.op_delete.specs.Looking.{IsWholeDir, without_entries, behind_empty};
 
 use base_words::Block;
 use lock_db::LockName;
@@ -53,6 +53,7 @@ pub(crate) fn empty_seen<'a>(
     rest: Rest<'a>,
 ) -> Result<Empty<'a>, NoMemory>
     requires readable { IsReadable f.now }
+    requires whole { IsWholeDir f.now }
     ensures { IfOk result (λ r. (next : Events) (given : Given) → FollowsBy (if_empty (file_seen g.now f.now) next) rest.entry given
         → following (if_empty (file_seen g.now f.now) next) rest.entry.locks.now rest.entry.blocks.now given ≡ behind_empty next given r) }
 {

@@ -13,7 +13,8 @@ ghost use Rattle.op_law.specs.Removing.{delete_in};
 ghost use Rattle.op_law.specs.Behind.{FollowsBy};
 ghost use Rattle.op_law.specs.Readable.{HeadIsInside};
 ghost use Rattle.op_steps.specs.Names.{dir_seen};
-ghost use Rattle.op_delete.specs.Naming.{if_used, file_locked, LockIsOf, IsFirstFile, IsPassed, IsTold, TellsFile};
+ghost use Rattle.op_delete.specs.Naming.{if_used, file_locked, LockIsOf, IsLone, IsFirstFile, IsPassed, IsTold, TellsFile};
+ghost use Rattle.op_delete.specs.Seeing.{HeadIsFollowed};
 
 use lock_db::LockName;
 use op_law::{Need, Rest, header_lbn};
@@ -45,9 +46,11 @@ fn file_locked(locks: &[(LockName, Mode)]) -> Option<(u32, &[(LockName, Mode)])>
 }
 
 // The file of a number, by its header, where more was seen behind that: so it is in use.
-fn header_passed<'a>(n: u32, rest: Rest<'a>) -> Told<'a>
-    requires { HeadIsInside rest.blocks.now }
-    ensures file { IsFirstFile n rest.entry result }
+fn header_passed<'a>(volume: &Geometry, n: u32, rest: Rest<'a>) -> Told<'a>
+    requires number { n ≤ volume.now.files }
+    requires inside { HeadIsInside rest.blocks.now }
+    requires followed { HeadIsFollowed volume.now rest.blocks.now }
+    ensures file { IsFirstFile volume.now n rest.entry result }
     ensures passed { (g : Volume) (seq : ℕ) (lbn : ℕ) (plan : Plan) (next : SeenFile → Events) (space : Space)
         → FollowsBy (Look (S n) lbn (if_used g n seq plan next)) rest.entry space → IsPassed g (Look (S n) lbn (if_used g n seq plan next)) rest.entry next space result }
 {
@@ -81,15 +84,18 @@ pub(crate) fn file_told<'a>(g: &Geometry, d: &DirSeen<'_>, rest: Rest<'a>) -> To
     requires number { d.now.fid.num ≤ g.now.files }
     requires locked { LockIsOf g.now rest.locks.now }
     requires inside { HeadIsInside rest.blocks.now }
-    ensures file { TellsFile g.now.files result }
+    requires followed { HeadIsFollowed g.now rest.blocks.now }
+    requires lone { IsLone g.now d.now.fid.num rest.blocks.now }
+    ensures file { TellsFile g.now result }
     ensures told { (o : Option DirEnt) (space : Space) → FollowsBy (if_entry o (delete_in g.now (dir_seen d.now))) rest.entry space → IsTold g.now (dir_seen d.now) o rest.entry space result }
 {
     match file_locked(rest.locks) {
-        None => header_passed(d.fid.num, rest),
+        None => header_passed(g, d.fid.num, rest),
         Some((n, _)) if rest.blocks.is_empty() => {
             Told::Next(Need::Block(LockName::S(n), header_lbn(g, n)))
         }
         Some((n, locks)) => header_passed(
+            g,
             n,
             Rest {
                 locks,

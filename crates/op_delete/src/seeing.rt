@@ -10,7 +10,7 @@ ghost use Rattle.op_law.specs.Refusing.{SeenFile, seen_file, used_in, if_file};
 ghost use Rattle.op_law.specs.Removing.{under_lock, through_named};
 ghost use Rattle.op_law.specs.Behind.{behind_block, FollowsBy, FollowsBlock, IsHeadOf};
 ghost use Rattle.op_law.specs.Readable.{AreInside, HeadIsInside};
-ghost use Rattle.op_delete.specs.Seeing.{behind_named, FollowsNamed, ShowsFile};
+ghost use Rattle.op_delete.specs.Seeing.{behind_named, FollowsNamed, IsFollowed, HeadIsFollowed, ShowsFile};
 
 use base_words::Block;
 use lock_db::LockName;
@@ -51,9 +51,11 @@ fn header_under<'a>(g: &Geometry, dir: u32, n: u32, rest: Rest<'a>) -> Looked<'a
 }
 
 // The file of a header.
-fn file_in<'a>(fid: Fid, head: &'a Block, rest: Rest<'a>) -> Named<'a>
+fn file_in<'a>(volume: &Geometry, fid: Fid, head: &'a Block, rest: Rest<'a>) -> Named<'a>
+    requires number { fid.num ≤ volume.now.files }
     requires inside { AreInside head.now }
-    ensures file { ShowsFile fid.num result }
+    requires followed { IsFollowed volume.now head.now rest.blocks.now }
+    ensures file { ShowsFile volume.now result }
     ensures need { (g : Volume) (plan : Plan) (next : SeenFile → Events) (space : Space)
         → following (if_file (Make plan) next (option_map (seen_file g fid.num head.now) (used_in fid.seq head.now))) rest.entry.locks.now rest.entry.blocks.now space ≡ behind_named g plan next space result }
     ensures follows { (g : Volume) (plan : Plan) (next : SeenFile → Events) (space : Space)
@@ -69,7 +71,8 @@ fn file_in<'a>(fid: Fid, head: &'a Block, rest: Rest<'a>) -> Named<'a>
 pub(crate) fn named_seen<'a>(g: &Geometry, dir: u32, fid: Fid, rest: Rest<'a>) -> Named<'a>
     requires geometry { IsGeometry g.now }
     requires inside { HeadIsInside rest.blocks.now }
-    ensures file { ShowsFile g.now.files result }
+    requires followed { HeadIsFollowed g.now rest.blocks.now }
+    ensures file { ShowsFile g.now result }
     ensures need { (plan : Plan) (next : SeenFile → Events) (space : Space)
         → following (through_named g.now dir fid (Make plan) next) rest.entry.locks.now rest.entry.blocks.now space ≡ behind_named g.now plan next space result }
     ensures follows { (plan : Plan) (next : SeenFile → Events) (space : Space) → FollowsBy (through_named g.now dir fid (Make plan) next) rest.entry space → FollowsNamed g.now next space result }
@@ -79,6 +82,6 @@ pub(crate) fn named_seen<'a>(g: &Geometry, dir: u32, fid: Fid, rest: Rest<'a>) -
     }
     match header_under(g, dir, fid.num, rest) {
         Looked::Next(need) => Named::Next(need),
-        Looked::Seen(head, behind) => file_in(fid, head, behind),
+        Looked::Seen(head, behind) => file_in(g, fid, head, behind),
     }
 }

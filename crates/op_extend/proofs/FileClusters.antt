@@ -1,29 +1,13 @@
 -- The clusters of a file that a command has seen, and the runs that they are.
-use Rattle.std.proofs.Common.{◌≡◌, ◌∙◌, ◌<◌, ◌≤◌, ◌+◌, ◌*◌, ◌/◌, ◌++◌, ℕ, true, List, [], ◌∷◌, None, length, inl, inr, refl, sym, ap, arith, append_assoc, length-append}
-use Rattle.std.specs.Prelude.{nat_le}
+use Rattle.std.proofs.Common.{◌≡◌, ◌∙◌, ◌<◌, ◌≤◌, ◌+◌, ◌*◌, ◌/◌, ◌++◌, ℕ, List, [], ◌∷◌, map, take, drop, refl, sym, ap, arith, append_assoc}
 use Rattle.std.specs.List.{range_with_len}
-use Rattle.std.proofs.Math.Nat.{mul-le-mul_left, div-mul-le_self}
-use Rattle.std.proofs.lemmas.Bool.Decides.{nat_tests}
-use Rattle.std.proofs.lemmas.List.{map-append}
+use Rattle.std.proofs.Math.Nat.{mul-le-mul_left, div-mul-le_self, mul-div_cancel}
+use Rattle.std.proofs.lemmas.List.{map-append, take-map, drop-map}
 use Rattle.fx_header.specs.declared.run.Run.{Run}
-use Rattle.fx_header.specs.Headers.{map_area}
-use Rattle.fx_header.specs.Pointers.{AreRuns, blocks_in, map_words}
-use Rattle.fx_header.proofs.SoundLemmas.{areas-of}
-use Rattle.base_words.specs.Lists.{Has}
-use Rattle.base_words.proofs.Listing.{has_parted}
-use Rattle.plain_rules.specs.Lookups.{header_most}
 use Rattle.vol_parts.specs.declared.geometry.Geometry.{Geometry}
-use Rattle.vol_parts.specs.Parts.{IsGeometry}
 use Rattle.vol_parts.proofs.Ranges.{range-more}
-use Rattle.vol_spell.specs.Reading.{total_of, clusters_of}
+use Rattle.vol_spell.specs.Reading.{clusters_of}
 use Rattle.op_law.specs.Writing.{runs_for}
-use Rattle.op_law.specs.SeenFiles.{file_clusters}
-use Rattle.op_steps.proofs.FileRuns.{are_runs_for, short_words}
-use Rattle.op_steps.proofs.Clustered.{few_blocks}
-use Rattle.op_steps.specs.Given.{IsOfVolume}
-use Rattle.op_steps.specs.declared.seeing.FileSeen.{FileSeen}
-use Rattle.op_steps.specs.Seeing.{file_seen}
-use Rattle.op_extend.specs.Seeing.{IsReadable}
 
 -- the runs of clusters in a row
 pub runs_joined : (g : Geometry) (ps qs : List ℕ) → runs_for g (ps ++ qs) ≡ runs_for g ps ++ runs_for g qs
@@ -53,27 +37,19 @@ cluster_within lbn count w i low lt top =
     let more : w * (i + 1) ≡ i * w + w = omega arith in
     omega arith
 
--- ---- the clusters of a file and new ones
+-- the runs of the first clusters, and of those behind them
+pub taken : (g : Geometry) (k : ℕ) (qs : List ℕ) → take k (runs_for g qs) ≡ runs_for g (take k qs)
+taken g k qs = take-map (λ (q : ℕ). record { lbn = q * g.cluster; count = g.cluster }) k qs
 
-module _ (g : Geometry) (f : FileSeen) (qs : List ℕ) (geometry : IsGeometry g) (readable : IsReadable g f) (few : f.fields.blocks / g.cluster + length qs ≤ header_most) (of_volume : IsOfVolume g qs None) where
-  abbrev all : List ℕ
-  all = file_clusters g (file_seen g f) ++ qs
+pub dropped : (g : Geometry) (k : ℕ) (qs : List ℕ) → drop k (runs_for g qs) ≡ runs_for g (drop k qs)
+dropped g k qs = drop-map (λ (q : ℕ). record { lbn = q * g.cluster; count = g.cluster }) k qs
 
-  all_few : length (file_clusters g (file_seen g f) ++ qs) ≤ header_most
-  all_few = let a = length-append (file_clusters g (file_seen g f)) qs in let c = readable.sized.count in omega arith
+-- the cluster of each run
+pub first_ones : (g : Geometry) (qs : List ℕ) → 1 ≤ g.cluster → map (λ (r : Run). r.lbn / g.cluster) (runs_for g qs) ≡ qs
+first_ones g [] low = refl
+first_ones g (q ∷ qs) low =
+    ap (λ p. p ∷ map (λ (r : Run). r.lbn / g.cluster) (runs_for g qs)) (mul-div_cancel q low) ∙ ap (λ ps. q ∷ ps) (first_ones g qs low)
 
-  within : (q : ℕ) → Has (file_clusters g (file_seen g f) ++ qs) q → q < total_of g
-  within q t = elim (has_parted (file_clusters g (file_seen g f)) qs q t) [ inl u ↦ readable.sized.there q u | inr u ↦ of_volume.there q u ]
-
-  pub are_runs : AreRuns (runs_for g (file_clusters g (file_seen g f) ++ qs))
-  are_runs = are_runs_for g geometry.cluster_from all within geometry.blocks_to
-
-  pub blocks_few : blocks_in (runs_for g (file_clusters g (file_seen g f) ++ qs)) ≤ 65536
-  blocks_few = few_blocks g all geometry all_few
-
-  pub words_fit : nat_le (length (map_words (runs_for g (file_clusters g (file_seen g f) ++ qs)))) (2 * map_area f.head.now) ≡ true
-  words_fit =
-      let e = short_words g geometry.cluster_from all within geometry.cluster_to geometry.blocks_to in
-      let n = all_few in
-      let room = (areas-of f.head.now readable.map.offsets).room in
-      grind (arith, nat_tests)
+-- the runs of some clusters, and of others behind them
+pub both_runs : (g : Geometry) (ps qs seen : List ℕ) (rs : List Run) → rs ≡ runs_for g ps → seen ≡ qs → rs ++ runs_for g seen ≡ runs_for g (ps ++ qs)
+both_runs g ps qs seen rs first second = ap (λ (xs : List Run). xs ++ runs_for g seen) first ∙ ap (λ xs. runs_for g ps ++ runs_for g xs) second ∙ sym (runs_joined g ps qs)

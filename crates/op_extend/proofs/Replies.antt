@@ -1,5 +1,5 @@
 -- The outcome of EXTEND: the refusals in their order, and the file that is grown; and the stages on the way.
-use Rattle.std.proofs.Common.{◌≡◌, ◌≤◌, ◌∙◌, ℕ, Bool, true, false, cond, List, [], ◌∷◌, ◌++◌, Option, Some, None, refl, ap, arith}
+use Rattle.std.proofs.Common.{◌≡◌, ◌≤◌, ◌∙◌, ℕ, Bool, true, false, cond, List, [], ◌∷◌, ◌++◌, Option, Some, None, refl, sym, ap, subst, arith}
 use Rattle.std.specs.Prelude.{◌*◌, ◌+◌, ◌-◌, ◌/◌, ◌&&◌, ◌||◌, nat_lt, is_none}
 use Rattle.std.proofs.lemmas.Bool.Decides.{nat_tests}
 use Rattle.plain_cat.specs.declared.ids.Fid.{Fid}
@@ -15,16 +15,17 @@ use Rattle.plain_cat.specs.declared.cat.File.{File}
 use Rattle.plain_rules.specs.declared.outcome.Outcome.{Outcome}
 use Rattle.plain_rules.specs.Lookups.{live, row_of, free_clusters, header_most, file_most, needs_header}
 use Rattle.plain_rules.specs.Changes.{charged, with_file, grown}
-use Rattle.plain_rules.specs.Answers.{refused, first_refusal, unless, is_kept, over_draft, extend_refusal, extend_of, extend_outcome, outcome, Answer}
+use Rattle.plain_rules.specs.Answers.{refused, first_refusal, unless, is_kept, over_draft, extend_refusal, extend_of, extend_outcome, outcome, IsPick, Answer}
 use Rattle.plain_rules.specs.Stages.{extend_stage, command_stage, stage_of, staged}
-use Rattle.plain_rules.proofs.Headers.{no_header}
 use Rattle.plain_rules.proofs.LawSteps.{pick_exists}
 use Rattle.vol_parts.specs.declared.geometry.Geometry.{Geometry}
 use Rattle.vol_under.specs.UnderWay.{StandsAt}
+use Rattle.op_law.specs.Events.{has_number}
+use Rattle.op_law.specs.Knows.{is_short}
 use Rattle.op_law.specs.Sizes.{size_shown}
 use Rattle.op_law.specs.Writing.{clusters_for}
 use Rattle.op_law.proofs.Refusals.{passed, first_stays, first_goes}
-use Rattle.vol_spell.proofs.HeadSlots.{one_header_each}
+use Rattle.op_law.proofs.Spaces.{IsShort, space_refused, clusters_refused}
 
 -- the refusals that the header shows, and those of the quota rows
 abbrev pub head_checks : ℕ → File → ℕ → List (Bool × Refusal)
@@ -50,10 +51,6 @@ within n f k order = by_tests (nat_lt header_most k) (nat_lt file_most (f.cluste
   by_tests true b p q e = absurd (let z : true ≡ false = e in cc)
   by_tests false true p q e = absurd (let z : true ≡ false = e in cc)
   by_tests false false p q e = record { growth = grind (arith, nat_tests); file = grind (arith, nat_tests) }
-
--- no new header is needed
-none_needed : (n : ℕ) (f : File) (k : ℕ) → first_refusal (head_checks n f k) ≡ None → needs_header f.clusters k ≡ false
-none_needed n f k order = no_header f.clusters k (one_header_each (f.clusters + k) (within n f k order).file)
 
 -- the catalogue with the charge, and with the grown file
 abbrev pub charged_for : Geometry → Cat → File → ℕ → Cat
@@ -115,34 +112,70 @@ module _ (g : Geometry) (c : Cat) (factor : c.factor ≡ g.cluster) (node : ℕ)
     refuses_unpaid order r e = refuses_any r (λ new. comes_to new (Some r)
         (first_goes (head_checks file.num f k) (draft_checks g c f k ++ space_checks c f k new) order ∙ first_stays (draft_checks g c f k) (space_checks c f k new) r e))
 
-    -- the refusal of the space is the last
-    last_check : (new : Option ℕ) → Shows None → PaidTo None → first_refusal (checks g c file.num f k new) ≡ cond (nat_lt (free_clusters c) k) (Some refusal.DeviceFull) None
-    last_check new order paid =
+    -- a number suits the command if it is one where a new header is needed
+    abbrev pub Suits : Option ℕ → Type 0
+    Suits new = (needs_header f.clusters k && is_none new) ≡ false
+
+    -- the refusals of the space are the last
+    last_checks : (new : Option ℕ) → Shows None → PaidTo None → first_refusal (checks g c file.num f k new) ≡ first_refusal (space_checks c f k new)
+    last_checks new order paid =
         first_goes (head_checks file.num f k) (draft_checks g c f k ++ space_checks c f k new) order ∙ first_goes (draft_checks g c f k) (space_checks c f k new) paid
-        ∙ ap (λ t. cond (t && is_none new) (Some refusal.IndexFull) (cond (nat_lt (free_clusters c) k) (Some refusal.DeviceFull) None)) (none_needed file.num f k order)
 
-    pub refuses_short : Shows None → PaidTo None → nat_lt (free_clusters c) k ≡ true → Refuses refusal.DeviceFull
-    refuses_short order paid short = refuses_any refusal.DeviceFull (λ new. comes_to new (Some refusal.DeviceFull) (last_check new order paid ∙ ap (λ t. cond t (Some refusal.DeviceFull) None) short))
+    last_check : (new : Option ℕ) → Suits new → Shows None → PaidTo None → first_refusal (checks g c file.num f k new) ≡ cond (nat_lt (free_clusters c) k) (Some refusal.DeviceFull) None
+    last_check new suits order paid = last_checks new order paid ∙ ap (λ t. cond t (Some refusal.IndexFull) (cond (nat_lt (free_clusters c) k) (Some refusal.DeviceFull) None)) suits
 
-    module _ (order : Shows None) (paid : PaidTo None) (enough : k ≤ free_clusters c) where
-      grows : (new : Option ℕ) → outcome c node (cmd.Extend file blocks) new ≡ record { reply = size_shown g (f.clusters + k); after = after_for g c file.num f k }
-      grows new =
+    -- space was refused for its reason
+    no_number : Shows None → PaidTo None → needs_header f.clusters k ≡ true → IsPick c None → Refuses refusal.IndexFull
+    no_number order paid needs pick = (
+      None,
+      pick,
+      comes_to None (Some refusal.IndexFull) (last_checks None order paid ∙ ap (λ t. cond (t && true) (Some refusal.IndexFull) (cond (nat_lt (free_clusters c) k) (Some refusal.DeviceFull) None)) needs),
+    )
+
+    no_clusters : Shows None → PaidTo None → (new : Option ℕ) → IsPick c new → Suits new → nat_lt (free_clusters c) k ≡ true → Refuses refusal.DeviceFull
+    no_clusters order paid new pick suits short =
+        (new, pick, comes_to new (Some refusal.DeviceFull) (last_check new suits order paid ∙ ap (λ t. cond t (Some refusal.DeviceFull) None) short))
+
+    pub refuses_short : Shows None → PaidTo None → (r : Refusal) → is_short c (record { clusters = k; number = needs_header f.clusters k }) (Some r) ≡ true → Refuses r
+    refuses_short order paid r short = by_need (needs_header f.clusters k) refl r short where
+      with_number : (r : Refusal) → needs_header f.clusters k ≡ true → IsShort c k r → Refuses r
+      with_number refusal.IndexFull needs is = no_number order paid needs is
+      with_number refusal.DeviceFull needs is = no_clusters order paid (Some is.0) is.1 (ap (λ t. t && false) needs) is.2
+      with_number other needs is = absurd is
+
+      by_need : (w : Bool) → needs_header f.clusters k ≡ w → (r : Refusal) → is_short c (record { clusters = k; number = w }) (Some r) ≡ true → Refuses r
+      by_need true needs r short = with_number r needs (space_refused c (record { clusters = k; number = true }) r refl short)
+      by_need false needs r short =
+          let why = clusters_refused c (record { clusters = k; number = false }) r refl short in
+          let p = pick_exists c in
+          subst Refuses (sym why.0) (no_clusters order paid p.0 p.1 (ap (λ t. t && is_none p.0) needs) why.1)
+
+    -- space was given
+    module _ (order : Shows None) (paid : PaidTo None) (enough : k ≤ free_clusters c) (new : Option ℕ) (pick : IsPick c new) (suits : Suits new) where
+      grows : outcome c node (cmd.Extend file blocks) new ≡ record { reply = size_shown g (f.clusters + k); after = after_for g c file.num f k }
+      grows =
           let has : nat_lt (free_clusters c) k ≡ false = grind (arith, nat_tests) in
-          comes_to new None (last_check new order paid ∙ ap (λ t. cond t (Some refusal.DeviceFull) None) has)
+          comes_to new None (last_check new suits order paid ∙ ap (λ t. cond t (Some refusal.DeviceFull) None) has)
 
       pub grows_answer : Answer c node (cmd.Extend file blocks) (size_shown g (f.clusters + k)) (after_for g c file.num f k)
-      grows_answer = let p = pick_exists c in (p.0, p.1, grows p.0)
+      grows_answer = (new, pick, grows)
 
       -- the stages of the command
-      stage_told : (new : Option ℕ) (st : Stage) → stage_of c node (cmd.Extend file blocks) new (outcome c node (cmd.Extend file blocks) new) st ≡ extend_stage c (Some f) blocks (record { reply = size_shown g (f.clusters + k); after = after_for g c file.num f k }) st
+      stage_told : (st : Stage) → stage_of c node (cmd.Extend file blocks) new (outcome c node (cmd.Extend file blocks) new) st ≡ extend_stage c (Some f) blocks (record { reply = size_shown g (f.clusters + k); after = after_for g c file.num f k }) st
       unfolding command_stage
-      stage_told new st =
-          ap (λ o. stage_of c node (cmd.Extend file blocks) new o st) (grows new) ∙ ap (λ y. extend_stage c y blocks (record { reply = size_shown g (f.clusters + k); after = after_for g c file.num f k }) st) lives
+      stage_told st =
+          ap (λ o. stage_of c node (cmd.Extend file blocks) new o st) grows ∙ ap (λ y. extend_stage c y blocks (record { reply = size_shown g (f.clusters + k); after = after_for g c file.num f k }) st) lives
 
       pub stands_charged : StandsAt c node (Some (cmd.Extend file blocks)) stage.Charged (charged_for g c f k)
       unfolding staged extend_stage
-      stands_charged = let p = pick_exists c in (p.0, p.1, stage_told p.0 stage.Charged ∙ ap (λ w. Some (charged c f.owner (w * ((blocks + (w - 1)) / w)))) factor)
+      stands_charged = (new, pick, stage_told stage.Charged ∙ ap (λ w. Some (charged c f.owner (w * ((blocks + (w - 1)) / w)))) factor)
 
       pub stands_done : StandsAt c node (Some (cmd.Extend file blocks)) stage.Done (after_for g c file.num f k)
       unfolding staged extend_stage
-      stands_done = let p = pick_exists c in (p.0, p.1, stage_told p.0 stage.Done)
+      stands_done = (new, pick, stage_told stage.Done)
+
+-- a number that was given where one is wanted, and none where none is, suits
+pub suits_given : (w : Bool) (new : Option ℕ) → has_number w new ≡ true → (w && is_none new) ≡ false
+suits_given true None e = absurd (let f : false ≡ true = e in cc)
+suits_given true (Some n) e = refl
+suits_given false new e = refl

@@ -1,8 +1,10 @@
 -- The law of TRUNC.
-use Rattle.std.proofs.Common.{◌≡◌, ◌≤◌, ◌+◌, ◌-◌, ◌*◌, ◌/◌, ◌∙◌, inl, inr, ℕ, zero, suc, Bool, true, false, cond, List, [], ◌∷◌, Option, Some, None, length, map, take, is_some, refl, sym, ap, subst, arith, length-take}
+use Rattle.std.proofs.Common.{◌≡◌, ◌≤◌, ◌<◌, ◌+◌, ◌-◌, ◌*◌, ◌/◌, ◌∙◌, ◌++◌, inl, inr, ℕ, zero, suc, Bool, true, false, cond, List, [], ◌∷◌, Option, Some, None, length, map, take, refl, sym, ap, subst, arith, length-take}
 use Rattle.std.specs.Prelude.{◌==◌, ◌||◌, min, nat_lt, option_map, Ok}
 use Rattle.std.proofs.lemmas.Bool.Decides.{nat_tests}
+use Rattle.std.proofs.lemmas.Option.{get_or_from_slice_get}
 use Rattle.base_words.specs.Fields.{Block}
+use Rattle.base_words.specs.Lists.{Has}
 use Rattle.fx_header.specs.declared.slot.Hdr.{Hdr}
 use Rattle.fx_header.specs.declared.slot.Slot.TheVariants as head
 use Rattle.lock_db.specs.declared.name.LockName.{LockName}
@@ -12,6 +14,7 @@ use Rattle.plain_cat.specs.declared.mode.Mode.{Mode}
 use Rattle.plain_cat.specs.declared.mode.Mode.TheVariants.{PR, PW}
 use Rattle.plain_cat.specs.declared.command.Cmd.{Cmd}
 use Rattle.plain_cat.specs.declared.command.Cmd.TheVariants as cmd
+use Rattle.plain_cat.specs.declared.history.Stage.TheVariants as stage
 use Rattle.plain_cat.specs.declared.reply.Reply.{Reply}
 use Rattle.plain_cat.specs.declared.reply.Reply.TheVariants as reply
 use Rattle.plain_cat.specs.declared.reply.Refusal.{Refusal}
@@ -22,43 +25,51 @@ use Rattle.plain_rules.specs.Lookups.{live, file_at}
 use Rattle.plain_rules.specs.Changes.{cut}
 use Rattle.plain_rules.specs.Answers.{is_kept, Answer}
 use Rattle.vol_spell.specs.declared.owner.Owner.TheVariants.{InFile}
-use Rattle.base_words.specs.Lists.{Has}
 use Rattle.vol_spell.specs.Owners.{Owners, Things, nothing, Outs}
+use Rattle.vol_spell.specs.Spread.{blocks_at}
 use Rattle.vol_parts.specs.declared.geometry.Geometry.{Geometry}
 use Rattle.vol_parts.specs.declared.geometry.Part.{Part}
-use Rattle.vol_parts.specs.declared.geometry.Part.TheVariants.{Storage}
+use Rattle.vol_parts.specs.declared.geometry.Part.TheVariants.{IndexBitmap, Storage}
 use Rattle.vol_parts.specs.Catalogues.{file_of, is_structure}
-use Rattle.vol_spell.specs.Reading.{IsFileNumber, header_block, head_told}
+use Rattle.vol_spell.specs.Reading.{IsFileNumber, header_block, quota_places, head_told, fields_told}
 use Rattle.vol_spell.specs.Places.{place_of, IsPart, file_of_part}
 use Rattle.vol_spell.specs.Spelling.{Spells}
 use Rattle.vol_spell.proofs.Parts.{part_there, part_owned}
 use Rattle.vol_spell.proofs.Frames.{on_volume}
+use Rattle.vol_spell.proofs.HeadFiles.{sized, counted, mark_within, end_within, file_is, shown, length-shown}
+use Rattle.vol_spell.proofs.HeadSlots.{reads_fields}
 use Rattle.vol_under.specs.Guards.{Lock, guard_of}
 use Rattle.vol_under.proofs.Steps.{stands_first}
 use Rattle.op_law.specs.declared.need.Plan.{Plan}
+use Rattle.op_law.specs.declared.need.PlanWrite.{PlanWrite}
 use Rattle.op_law.specs.declared.seen.Seen.{Seen}
-use Rattle.op_law.specs.Events.{Events}
+use Rattle.op_law.specs.Events.{Events, Make}
 use Rattle.op_law.specs.Fits.{things}
-use Rattle.op_law.specs.Freeing.{blocks_for}
+use Rattle.op_law.specs.Freeing.{blocks_for, look_index, look_storage, freeing_tail}
+use Rattle.op_law.specs.Headers.{through_chain}
 use Rattle.op_law.specs.Needs.{events_of}
 use Rattle.op_law.specs.Laws.{held_in, Fixed, IsLockedLook, Lawful}
-use Rattle.op_law.specs.Order.{level, IsBefore, Higher}
 use Rattle.op_law.specs.Refusing.{SeenFile, seen_file, unless_refused, if_file}
 use Rattle.op_law.specs.Rows.{plain_plan, refuses, answers, live_in}
-use Rattle.op_law.specs.Sizes.{size_shown, cut_clusters, cut_to, keep_clusters, trunc_in, trunc_events}
-use Rattle.op_law.specs.Writing.{clusters_for}
+use Rattle.op_law.specs.Quotas.{owner_write, row_discharged}
+use Rattle.op_law.specs.Sizes.{size_shown, cut_clusters, cut_numbers, headers_cut, cutting_writes, cut_to, keep_clusters, trunc_in, trunc_events}
+use Rattle.op_law.specs.Writing.{empty_handed, plan_of, clusters_for}
 use Rattle.op_law.proofs.Doing.{IsDone, refusal_done}
+use Rattle.op_law.proofs.Levels.{AreUpTo, none_held, up_to_more, new_above, behind_above}
+use Rattle.op_law.proofs.Links.{chain_obeys, chain_up_to}
+use Rattle.op_law.proofs.Ordering.{file_level}
 use Rattle.op_law.proofs.Spaceless.{spaceless_lawful}
-use Rattle.op_law.proofs.Telling.{live_is, not_live, live_reads}
-use Rattle.op_law.proofs.Through.{file_told, header_obeys, quota_obeys, all_obeys}
+use Rattle.op_law.proofs.Telling.{live_is, not_live}
+use Rattle.op_law.proofs.Through.{file_told, header_obeys, quota_obeys, all_obeys, last_held}
 use Rattle.op_law.proofs.Walking.{ObeysBy}
 use Rattle.op_steps.proofs.Chaining.{live_at}
 use Rattle.op_steps.specs.Files.{file_in}
-use Rattle.vol_spell.proofs.HeadFiles.{sized, counted, mark_within, end_within, file_is, shown, length-shown}
+use Rattle.op_freeing.specs.BitmapWrites.{index_seen, storage_seen}
 use Rattle.op_freeing.proofs.Filters.{mapped}
 use Rattle.op_freeing.proofs.Named.{guarded, for_part}
 use Rattle.op_extend.specs.Kinds.{IsTrunc}
-use Rattle.op_extend.proofs.Growing.{IsLive}
+use Rattle.op_extend.proofs.Growing.{IsLive, reads_live, kept_out}
+use Rattle.op_extend.proofs.Locks.{head_locks, quota_locks, bitmap_locks, quota_held}
 use Rattle.op_extend.proofs.TruncSteps.{cut_done}
 use Rattle.op_extend.proofs.TruncReplies.{refuses_none, refuses_kept, stays_answer}
 use Rattle.op_extend.proofs.TruncWalks.{trunc_no_search, trunc_shaped, trunc_end}
@@ -109,6 +120,17 @@ module _ (g : Geometry) (bs : List Block) (own : Owners) (c : Cat) (s : Spells g
 
 -- ---- the walk
 
+-- the block of the index-file bitmap is no matter where no number becomes free
+index_any : (g : Geometry) (f : SeenFile) (k : ℕ) (quota storage : List Block) (a b : Block) → cut_numbers g f k ≡ []
+    → cutting_writes g f k (record { quota = quota; index = a; storage = storage }) ≡ cutting_writes g f k (record { quota = quota; index = b; storage = storage })
+unfolding cutting_writes
+index_any g f k quota storage a b none =
+    let qs = cut_clusters g f k in
+    let row = owner_write g quota f.file.owner (row_discharged (g.cluster * (f.file.clusters - k))) stage.Done empty_handed in
+    let same : freeing_tail g stage.Shortened qs (cut_numbers g f k) storage a ≡ freeing_tail g stage.Shortened qs (cut_numbers g f k) storage b =
+    ap (λ ns. freeing_tail g stage.Shortened qs ns storage a) none ∙ ap (λ ns. freeing_tail g stage.Shortened qs ns storage b) (sym none) in
+    ap (λ (ws : List PlanWrite). headers_cut g f k ++ (ws ++ row)) same
+
 module _ (file : Fid) (blocks : ℕ) (node : ℕ) (seen : Seen) (bs : List Block) (own : Owners) (c : Cat) (stock : Things) (s : Spells seen.geometry bs own c)
     (given : things seen.clusters seen.number ≡ nothing) (outs : Outs node own nothing stock) where
   abbrev g : Geometry
@@ -132,14 +154,20 @@ module _ (file : Fid) (blocks : ℕ) (node : ℕ) (seen : Seen) (bs : List Block
   before : Outs node own (things seen.clusters seen.number) stock
   before = subst (λ t. Outs node own t stock) (sym given) outs
 
-  no : (r : Refusal) → Answer c node (cmd.Trunc file blocks) (reply.Refused r) c → (held : List (LockName × Mode)) → Done held (plain_plan (reply.Refused r))
-  no r answer held = refusal_done x node seen bs own c stock s before r answer held
+  refused_so : (r : Refusal) → Answer c node (cmd.Trunc file blocks) (reply.Refused r) c → (held : List (LockName × Mode)) → Done held (plain_plan (reply.Refused r))
+  refused_so r answer held = refusal_done x node seen bs own c stock s before r answer held
 
   -- an answer that writes nothing
   unchanged : (r : Reply) → Answer c node (cmd.Trunc file blocks) r c → (held : List (LockName × Mode)) → Done held (plain_plan r)
-  unchanged r answer held = record { named = λ w t. absurd t; dirs = λ w t. absurd t; kept_out = λ w t. absurd t; steps = (c, stands_first c node (Some x), s, before, c.opens, answer) }
+  unchanged r answer held = record {
+    named = λ w t. absurd t;
+    dirs = λ w t. absurd t;
+    slots = λ w t. absurd t;
+    kept_out = λ w t. absurd t;
+    steps = (c, stands_first c node (Some x), s, before, c.opens, answer);
+  }
 
-  -- a look at a block of the storage bitmap
+  -- a look at a block of a bitmap
   part_look : (held : List (LockName × Mode)) → Has (held_in PR held) V → (p : Part) → IsPart g p → guard_of g own (place_of g p) ≡ Some (Lock V) → IsLockedLook g bs own c held V (place_of g p)
   part_look held has p is guard = record {
     kind = Fixed p (part_there g bs own c s p is);
@@ -148,6 +176,13 @@ module _ (file : Fid) (blocks : ℕ) (node : ℕ) (seen : Seen) (bs : List Block
     within = on_volume g bs own c s (place_of g p) (InFile (file_of_part p)) (part_owned g bs own c s p is);
   }
 
+  -- at that of the index-file bitmap, if there is a number
+  index_obeys : (held : List (LockName × Mode)) → Has (held_in PR held) V → (ns : List ℕ) (next : Block → Events) → O (next (index_seen seen.geometry bs)) held → (ns ≡ [] → O (next []) held) → O (look_index seen.geometry ns next) held
+  index_obeys held has [] next o none = none refl
+  index_obeys held has (m ∷ ns) next o none =
+      let by = guarded g bs own c s in
+      (part_look held has IndexBitmap tt by.index, λ b at. subst (λ y. O (next y) held) (get_or_from_slice_get bs (place_of g IndexBitmap) b [] at) o)
+
   module _ (h : Hdr) (lives : IsLive seen.geometry bs c file h) (free : is_kept file.num (file_told bs seen.geometry file h) ≡ false) where
     abbrev f : File
     f = file_told bs seen.geometry file h
@@ -155,71 +190,99 @@ module _ (file : Fid) (blocks : ℕ) (node : ℕ) (seen : Seen) (bs : List Block
     abbrev sf : SeenFile
     sf = file_in seen.geometry bs file.num h
 
-    abbrev first : List (LockName × Mode)
-    first = (S file.num, PW) ∷ []
+    reads : head_told (header_block seen.geometry bs file.num) ≡ Ok (head.Used h)
+    reads = reads_live g bs c file h lives
 
-    abbrev last : List (LockName × Mode)
-    last = (S file.num, PW) ∷ (Q, PW) ∷ (V, PW) ∷ []
+    used : fields_told (header_block seen.geometry bs file.num) ≡ Some h
+    used = reads_fields (header_block g bs n) h reads
+
+    above : 11 < file.num
+    above = (kept_out n h.dir free).0
 
     at_file : file_at c n ≡ Some f
     at_file = live_at c file f lives.live
 
-    file_level : level c (S file.num) ≡ 0
-    file_level = ap (λ (o : Option File). cond (is_some o) 0 4) at_file
+    -- the locks that are held come before Q and V
+    low : AreUpTo seen.geometry bs own 0 ((S file.num, PW) ∷ [])
+    low = let first = file_level g bs own c s n h lives.number reads in up_to_more g bs own 0 0 [] (S n) PW (none_held g bs own 0) (omega arith) (omega arith)
 
-    before_q : (other : LockName) → Has (S file.num ∷ []) other → IsBefore c other Q
-    before_q other (inl is) = subst (λ l. IsBefore c l Q) is (Higher (let z = file_level in omega arith))
-    before_q other (inr t) = absurd t
+    up : AreUpTo seen.geometry bs own 15 (head_locks seen.geometry bs file.num)
+    up = chain_up_to g bs own c s n h lives.number used PW ((S n, PW) ∷ []) low
 
-    before_v : (other : LockName) → Has (S file.num ∷ Q ∷ []) other → IsBefore c other V
-    before_v other (inl is) = subst (λ l. IsBefore c l V) is (Higher (let z = file_level in omega arith))
-    before_v other (inr (inl is)) = subst (λ l. IsBefore c l V) is (Higher (omega arith))
-    before_v other (inr (inr t)) = absurd t
-
-    no_q : Has (S file.num ∷ []) Q → ⊥
-    no_q (inl is) = cc
-    no_q (inr t) = t
-
-    no_v : Has (S file.num ∷ Q ∷ []) V → ⊥
-    no_v (inl is) = cc
-    no_v (inr (inl is)) = cc
-    no_v (inr (inr t)) = t
+    up_q : AreUpTo seen.geometry bs own 16 (quota_locks seen.geometry bs file.num)
+    up_q = up_to_more g bs own 15 16 (head_locks g bs n) Q PW up (omega arith) (omega arith)
 
     -- its locks and looks where clusters go
-    cut_obeys : nat_lt k f.clusters ≡ true → O (cut_to g sf k) first
-    cut_obeys goes =
-        let by = guarded g bs own c s in
-        let qs = cut_clusters g sf k in
-        let ks = blocks_for g qs in
-        quota_obeys x g bs own c s seen Done first PW (inr (inl refl)) _ no_q before_q (
-          record { new = no_v; in_mode = inr (inl refl); own = refl; turn = inr (inl refl); after = before_v },
-          all_obeys x g bs own c s seen Done V last (map (λ k. place_of g (Storage k)) ks) _
-              (λ l t. let m = mapped (λ k. place_of g (Storage k)) ks l t in
-              subst (λ y. IsLockedLook g bs own c last V y) m.2 (part_look last (inr (inr (inl refl))) (Storage m.0) (for_part g qs m.0 m.1) (ap (guard_of g own) m.2 ∙ by.storage qs l t)))
-              (cut_done file blocks node seen bs own c s stock outs h lives free goes),
-        )
+    module _ (goes : nat_lt (clusters_for seen.geometry blocks) (file_told bs seen.geometry file h).clusters ≡ true) where
+      abbrev qs : List ℕ
+      qs = cut_clusters seen.geometry (file_in seen.geometry bs file.num h) (clusters_for seen.geometry blocks)
 
-    reads : head_told (header_block g bs n) ≡ Ok (head.Used h)
-    reads = live_reads file.seq (head_told (header_block g bs n)) h lives.header
+      abbrev ns : List ℕ
+      ns = cut_numbers seen.geometry (file_in seen.geometry bs file.num h) (clusters_for seen.geometry blocks)
 
-    by_less : (t : Bool) → nat_lt k f.clusters ≡ t → O (cond t (cut_to g sf k) (answers (size_shown g f.clusters))) first
+      abbrev quota : List Block
+      quota = blocks_at bs (quota_places seen.geometry)
+
+      abbrev with_space : Block → List Block → Events
+      with_space index storage = Make (plan_of (cutting_writes g sf k (record { quota = quota; index = index; storage = storage })) (size_shown g k))
+
+      abbrev storage : List Block
+      storage = storage_seen seen.geometry bs qs
+
+      done : Done (bitmap_locks g bs n) (plan_of (cutting_writes g sf k (record { quota = quota; index = index_seen g bs; storage = storage })) (size_shown g k))
+      done = cut_done file blocks node seen bs own c s stock outs h lives free goes
+
+      storage_obeys : (index : Block) → Done (bitmap_locks g bs n) (plan_of (cutting_writes g sf k (record { quota = quota; index = index; storage = storage })) (size_shown g k))
+          → O (look_storage g (blocks_for g qs) (with_space index)) (bitmap_locks g bs n)
+      storage_obeys index is =
+          let by = guarded g bs own c s in
+          let ks = blocks_for g qs in
+          let has = last_held (quota_locks g bs n) V PW (inr (inl refl)) in
+          all_obeys x g bs own c s seen Done V (bitmap_locks g bs n) (map (λ k. place_of g (Storage k)) ks) _
+          (λ l t. let m = mapped (λ k. place_of g (Storage k)) ks l t in
+          subst (λ y. IsLockedLook g bs own c (bitmap_locks g bs n) V y) m.2 (part_look (bitmap_locks g bs n) has (Storage m.0) (for_part g qs m.0 m.1) (ap (guard_of g own) m.2 ∙ by.storage qs l t)))
+          is
+
+      cut_obeys : O (cut_to seen.geometry (file_in seen.geometry bs file.num h) (clusters_for seen.geometry blocks)) (head_locks seen.geometry bs file.num)
+      cut_obeys =
+          let has = last_held (quota_locks g bs n) V PW (inr (inl refl)) in
+          let none : ns ≡ [] → Done (bitmap_locks g bs n) (plan_of (cutting_writes g sf k (record { quota = quota; index = []; storage = storage })) (size_shown g k)) =
+          (λ e. subst (λ (ws : List PlanWrite). Done (bitmap_locks g bs n) (plan_of ws (size_shown g k))) (index_any g sf k quota storage (index_seen g bs) [] e) done) in
+          quota_obeys x g bs own c s seen Done (head_locks g bs n) PW (inr (inl refl)) _ (new_above g bs own 15 (head_locks g bs n) Q up (omega arith)) (behind_above g bs own c 15 (head_locks g bs n) Q up (omega arith)) (
+            record {
+              new = new_above g bs own 16 (quota_locks g bs n) V up_q (omega arith);
+              in_mode = inr (inl refl);
+              own = refl;
+              turn = quota_held g bs n;
+              after = behind_above g bs own c 16 (quota_locks g bs n) V up_q (omega arith);
+            },
+            index_obeys (bitmap_locks g bs n) has ns (λ index. look_storage g (blocks_for g qs) (with_space index)) (storage_obeys (index_seen g bs) done) (λ e. storage_obeys [] (none e)),
+          )
+
+    by_less : (t : Bool) → nat_lt (clusters_for seen.geometry blocks) (file_told bs seen.geometry file h).clusters ≡ t
+        → O (cond t (cut_to seen.geometry (file_in seen.geometry bs file.num h) (clusters_for seen.geometry blocks)) (answers (size_shown seen.geometry (file_told bs seen.geometry file h).clusters))) (head_locks seen.geometry bs file.num)
     by_less true goes = cut_obeys goes
     by_less false stays =
         unchanged (size_shown g f.clusters)
-        (stays_answer g c s.constants.factor node file blocks f lives.live free stays at_file (all_kept g bs own c s n h lives.number reads f at_file)) first
+        (stays_answer g c s.constants.factor node file blocks f lives.live free stays at_file (all_kept g bs own c s n h lives.number reads f at_file)) (head_locks g bs n)
+
+    behind_header : O (through_chain seen.geometry PW (seen_file seen.geometry file.num (header_block seen.geometry bs file.num) h) (keep_clusters seen.geometry (clusters_for seen.geometry blocks))) ((S file.num, PW) ∷ [])
+    behind_header =
+        chain_obeys x g bs own c s seen Done n h lives.number used PW (inr (inl refl)) ((S n, PW) ∷ []) low (keep_clusters g k) above
+        (by_less (nat_lt k f.clusters) refl)
 
   abbrev in_file : Hdr → Bool → Events
-  in_file h t = unless_refused (cond t (Some refusal.NoPriv) None) (keep_clusters g k (file_in g bs n h))
+  in_file h t = unless_refused (cond t (Some refusal.NoPriv) None) (through_chain g PW (seen_file g n (header_block g bs n) h) (keep_clusters g k))
 
   by_kept : (h : Hdr) → IsLive seen.geometry bs c file h → (t : Bool) → is_kept n (file_told bs g file h) ≡ t → O (in_file h t) ((S file.num, PW) ∷ [])
-  by_kept h lives true kept = no refusal.NoPriv (refuses_kept g c s.constants.factor node file blocks (file_told bs g file h) lives.live kept) ((S n, PW) ∷ [])
-  by_kept h lives false free = by_less h lives free (nat_lt k (file_told bs g file h).clusters) refl
+  by_kept h lives true kept = refused_so refusal.NoPriv (refuses_kept g c s.constants.factor node file blocks (file_told bs g file h) lives.live kept) ((S n, PW) ∷ [])
+  by_kept h lives false free = behind_header h lives free
 
   lives_so : IsFileNumber seen.geometry file.num → (o : Option Hdr) → live_in file.seq (header_block seen.geometry bs file.num) ≡ o → live c file ≡ option_map (file_told bs seen.geometry file) o
   lives_so is o e = live_is g bs own c s file is ∙ ap (option_map (file_told bs g file)) e
 
   none : live c file ≡ None → (held : List (LockName × Mode)) → Done held (plain_plan (reply.Refused refusal.NoSuchFile))
-  none e = no refusal.NoSuchFile (refuses_none g c s.constants.factor node file blocks e)
+  none e = refused_so refusal.NoSuchFile (refuses_none g c s.constants.factor node file blocks e)
 
   by_live : IsFileNumber seen.geometry file.num → (o : Option Hdr) → live_in file.seq (header_block seen.geometry bs file.num) ≡ o
       → O (if_file (refuses refusal.NoSuchFile) (trunc_in seen.geometry (clusters_for seen.geometry blocks)) (option_map (seen_file seen.geometry file.num (header_block seen.geometry bs file.num)) o)) ((S file.num, PW) ∷ [])

@@ -1,3 +1,4 @@
 pub mod Kinds
 pub mod Seeing
 pub mod Given
+pub mod Cutting

@@ -1,32 +1,33 @@
 //! What EXTEND needs next.
 
-ghost use Rattle.std.specs.Prelude.{◌≡◌, ◌≤◌, ◌+◌, ◌/◌, option_map, None, length, IfOk};
-ghost use Rattle.plain_rules.specs.Lookups.{header_most};
+ghost use Rattle.std.specs.Prelude.{◌≡◌, ◌≤◌, ◌<◌, ◌+◌, ◌/◌, [], option_map, length, IfOk, IfSome};
+ghost use Rattle.plain_rules.specs.Lookups.{header_most, file_most, needs_header};
 ghost use Rattle.plain_rules.specs.Answers.{first_refusal, over_draft};
 ghost use Rattle.vol_parts.specs.Parts.{IsGeometry};
 ghost use Rattle.op_law.specs.Events.{next_of, space_of};
 ghost use Rattle.op_law.specs.Rows.{live_in, refuses};
 ghost use Rattle.op_law.specs.Refusing.{seen_file, if_file};
-ghost use Rattle.op_law.specs.Sizes.{grown_by, growing_refusals, draft_refusals, extend_in, extend_events};
+ghost use Rattle.op_law.specs.Sizes.{size_shown, growing_writes, growing_refusals, draft_refusals, into_headers, growing_events, extend_in, extend_events};
+ghost use Rattle.op_law.specs.Writing.{plan_of};
 ghost use Rattle.op_law.specs.Behind.{goes_on_by, blocks_alone};
 ghost use Rattle.op_law.specs.Readable.{AreInside, HeadIsInside};
+ghost use Rattle.op_law.specs.declared.need.Need.TheVariants as need;
 ghost use Rattle.plain_cat.specs.declared.reply.Refusal.TheVariants as refusal;
 ghost use Rattle.op_steps.specs.Given.{IsOfVolume};
-ghost use Rattle.op_steps.specs.Seeing.{file_seen};
-ghost use Rattle.op_extend.specs.Seeing.{IsSized, HeadIsSized, IsReadable};
-ghost use Rattle.vol_spell.specs.Reading.{head_told};
-ghost use Rattle.fx_header.specs.declared.slot.Hdr.{Hdr};
-ghost use Rattle.fx_header.specs.declared.slot.Slot.TheVariants.{Used};
-ghost use Rattle.std.specs.Prelude.{Ok};
+ghost use Rattle.op_steps.specs.Seeing.{file_seen, IsReadable};
+ghost use Rattle.op_extend.specs.Given.{AreGiven};
+ghost use Rattle.op_extend.specs.Seeing.{IsBegun, FirstIsBegun, FileIsBegun, IsSeenWhole, IsGrowth, IsNewSlot};
 
-use crate::given::{Given, clusters_given};
+use crate::given::{Given, space_given};
+use crate::runs::extra;
 use crate::writing::growing_writes;
 use base_words::Block;
+use op_freeing::slot_seq;
 use op_law::{
     FILE_MOST, HEADER_MOST, Listed, Looked, Need, NoMemory, Plan, Rest, Seen, header_seen,
     is_number, live_in, refused,
 };
-use op_steps::{FileSeen, clusters_for, quota_seen, rows_seen};
+use op_steps::{Chained, FileSeen, chain_seen, clusters_for, quota_seen, rows_seen, slot_seen};
 use plain_cat::{Fid, Mode, QuotaRow, Refusal, Reply, Uic};
 use plain_rules::row_of;
 use std::alloc::Global;
@@ -77,8 +78,41 @@ fn draft_refusal(
     Ok(None)
 }
 
+// Whether a file of k clusters needs a new header for so many more.
+fn needs_header(k: u32, more: u32) -> bool
+    requires { k + more ≤ file_most }
+    ensures { result ≡ needs_header k more }
+{
+    extra(k) < extra(k + more)
+}
+
 // The plan.
 fn grown(
+    alloc: Global,
+    seen: &Seen,
+    f: &FileSeen<'_>,
+    quota: &[(u32, Block)],
+    k: u32,
+    new: Option<(u32, u16)>,
+) -> Result<Need, NoMemory>
+    requires geometry { IsGeometry seen.now.geometry }
+    requires whole { IsSeenWhole seen.now.geometry f.now }
+    requires quota { length quota.now ≤ 16 }
+    requires growth { IsGrowth seen.now.geometry f.now seen.now.clusters }
+    requires count { length seen.now.clusters ≡ k }
+    requires slot { IfSome new (IsNewSlot seen.now.geometry f.now k) }
+    ensures { IfOk result (λ r. r ≡ need.Ready (plan_of (growing_writes seen.now.geometry (file_seen seen.now.geometry f.now) (blocks_alone quota.now) seen.now.clusters k new) (size_shown seen.now.geometry (f.now.fields.blocks / seen.now.geometry.cluster + k)))) }
+{
+    let g = &seen.geometry;
+    Ok(Need::Ready(Plan {
+        writes: growing_writes(alloc, g, f, quota, &seen.clusters, k, new)?,
+        ask: None,
+        reply: Reply::Size(g.cluster * (f.fields.blocks / g.cluster + k)),
+    }))
+}
+
+// Behind the search for space: the slot of the number, if one was given, and the plan.
+fn into_headers(
     alloc: Global,
     seen: &Seen,
     f: &FileSeen<'_>,
@@ -87,22 +121,54 @@ fn grown(
     rest: Rest<'_>,
 ) -> Result<Need, NoMemory>
     requires geometry { IsGeometry seen.now.geometry }
-    requires readable { IsReadable seen.now.geometry f.now }
+    requires whole { IsSeenWhole seen.now.geometry f.now }
     requires quota { length quota.now ≤ 16 }
-    requires few { f.now.fields.blocks / seen.now.geometry.cluster + k ≤ header_most }
-    requires count { length seen.now.clusters ≡ k }
+    requires growth { IsGrowth seen.now.geometry f.now seen.now.clusters }
+    requires given { AreGiven k (needs_header (f.now.fields.blocks / seen.now.geometry.cluster) k) (space_of seen.now) }
     requires within { IsOfVolume seen.now.geometry seen.now.clusters seen.now.number }
-    ensures { IfOk result (λ need. need ≡ goes_on_by (grown_by seen.now.geometry (file_seen seen.now.geometry f.now) (blocks_alone quota.now) k seen.now.clusters) rest.entry (space_of seen.now)) }
+    ensures { IfOk result (λ need. need ≡ goes_on_by (into_headers seen.now.geometry (file_seen seen.now.geometry f.now) (blocks_alone quota.now) k seen.now.clusters seen.now.number) rest.entry (space_of seen.now)) }
 {
-    let g = &seen.geometry;
-    Ok(Need::Ready(Plan {
-        writes: growing_writes(alloc, g, f, quota, &seen.clusters, k)?,
-        ask: None,
-        reply: Reply::Size(g.cluster * (f.fields.blocks / g.cluster + k)),
-    }))
+    let Some(n) = seen.number else {
+        return grown(alloc, seen, f, quota, k, None);
+    };
+    match slot_seen(&seen.geometry, n, Mode::PW, rest) {
+        Looked::Next(need) => Ok(need),
+        Looked::Seen(slot, _) => grown(alloc, seen, f, quota, k, Some((n, slot_seq(slot)))),
+    }
 }
 
-// Behind the file's header.
+// Behind all headers of the file.
+fn growing(
+    alloc: Global,
+    seen: &Seen,
+    f: &FileSeen<'_>,
+    k: u32,
+    rest: Rest<'_>,
+) -> Result<Need, NoMemory>
+    requires geometry { IsGeometry seen.now.geometry }
+    requires whole { IsSeenWhole seen.now.geometry f.now }
+    requires few { k ≤ header_most }
+    requires all { f.now.fields.blocks / seen.now.geometry.cluster + k ≤ file_most }
+    requires within { IsOfVolume seen.now.geometry seen.now.clusters seen.now.number }
+    ensures { IfOk result (λ need. need ≡ goes_on_by (growing_events seen.now.geometry k (file_seen seen.now.geometry f.now)) rest.entry (space_of seen.now)) }
+{
+    let g = &seen.geometry;
+    match quota_seen(g, Mode::PW, rest) {
+        Listed::Next(need) => Ok(need),
+        Listed::All(quota, behind) => {
+            if let Some(why) = draft_refusal(alloc, g, f, quota, k)? {
+                return Ok(refused(alloc, why));
+            }
+            let number = needs_header(f.fields.blocks / g.cluster, k);
+            match space_given(alloc, seen, k, number, behind) {
+                Given::Next(need) => Ok(need),
+                Given::Space => into_headers(alloc, seen, f, quota, k, behind),
+            }
+        }
+    }
+}
+
+// Behind the file's first header.
 fn extend_in(
     alloc: Global,
     seen: &Seen,
@@ -111,7 +177,10 @@ fn extend_in(
     rest: Rest<'_>,
 ) -> Result<Need, NoMemory>
     requires geometry { IsGeometry seen.now.geometry }
-    requires readable { IsReadable seen.now.geometry f.now }
+    requires number { f.now.num ≤ seen.now.geometry.files }
+    requires alone { f.now.rest.now ≡ [] }
+    requires readable { IsReadable f.now }
+    requires begun { 11 < f.now.num → IsBegun seen.now.geometry f.now.num f.now.head.now f.now.fields rest.blocks.now }
     requires few { k ≤ 65536 }
     requires within { IsOfVolume seen.now.geometry seen.now.clusters seen.now.number }
     ensures { IfOk result (λ need. need ≡ goes_on_by (extend_in seen.now.geometry k (file_seen seen.now.geometry f.now)) rest.entry (space_of seen.now)) }
@@ -120,17 +189,9 @@ fn extend_in(
     if let Some(why) = growing_refusal(g, f, k) {
         return Ok(refused(alloc, why));
     }
-    match quota_seen(g, Mode::PW, rest) {
-        Listed::Next(need) => Ok(need),
-        Listed::All(quota, behind) => {
-            if let Some(why) = draft_refusal(alloc, g, f, quota, k)? {
-                return Ok(refused(alloc, why));
-            }
-            match clusters_given(alloc, seen, k, behind) {
-                Given::Next(need) => Ok(need),
-                Given::Clusters => grown(alloc, seen, f, quota, k, behind),
-            }
-        }
+    match chain_seen(g, Mode::PW, f, rest) {
+        Chained::Next(need) => Ok(need),
+        Chained::File(whole, behind) => growing(alloc, seen, &whole, k, behind),
     }
 }
 
@@ -146,7 +207,7 @@ fn in_header(
     requires geometry { IsGeometry seen.now.geometry }
     requires number { file.num ≤ seen.now.geometry.files }
     requires inside { AreInside head.now }
-    requires sized { (h : Hdr) → head_told head.now ≡ Ok (Used h) → IsSized seen.now.geometry (seen_file seen.now.geometry file.num head.now h) }
+    requires begun { FirstIsBegun seen.now.geometry file.num head.now rest.blocks.now }
     requires few { k ≤ 65536 }
     requires within { IsOfVolume seen.now.geometry seen.now.clusters seen.now.number }
     ensures { IfOk result (λ need. need ≡ goes_on_by (if_file (refuses refusal.NoSuchFile) (extend_in seen.now.geometry k) (option_map (seen_file seen.now.geometry file.num head.now) (live_in file.seq head.now))) rest.entry (space_of seen.now)) }
@@ -178,7 +239,7 @@ pub(crate) fn extend_next(
 ) -> Result<Need, NoMemory>
     requires geometry { IsGeometry seen.now.geometry }
     requires inside { HeadIsInside seen.now.blocks }
-    requires sized { HeadIsSized seen.now.geometry file.num seen.now.blocks }
+    requires begun { FileIsBegun seen.now.geometry file.num seen.now.blocks }
     requires within { IsOfVolume seen.now.geometry seen.now.clusters seen.now.number }
     requires blocks { blocks ≤ 65536 }
     ensures { IfOk result (λ need. need ≡ next_of (extend_events seen.now.geometry file blocks) seen.now) }

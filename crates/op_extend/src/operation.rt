@@ -7,9 +7,9 @@ use plain_cat::Cmd;
 use std::alloc::Global;
 use std::marker::Model;
 
-/// An EXTEND or a TRUNC under way. Both need the file's lock in PW and its header, and the quota file's lock in PW and its blocks.
-/// EXTEND then needs clusters, and TRUNC the lock of the bitmaps in PW and the blocks that have bits of the clusters that go. A TRUNC
-/// by which nothing goes needs the header alone.
+/// An EXTEND or a TRUNC under way. Both need the locks of the file's headers in PW and these headers, and the quota file's lock in PW
+/// and its blocks. EXTEND then needs clusters, and a number with its lock and its slot if a new header is needed, and TRUNC the lock
+/// of the bitmaps in PW and the blocks that have bits of what goes. A TRUNC by which nothing goes needs the headers alone.
 #[derive(Drop)]
 pub struct OpExtend {
     cmd: Cmd,

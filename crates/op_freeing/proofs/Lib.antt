@@ -1,9 +1,12 @@
 pub mod Bits
+pub mod ChainNumbers
 pub mod Counted
 pub mod Endings
 pub mod Filters
 pub mod Given
+pub mod GoneStands
 pub mod GoneSteps
+pub mod HeaderSlots
 pub mod Looks
 pub mod Named
 pub mod Pushing

@@ -6,6 +6,7 @@ use Rattle.fx_dir.specs.declared.Move.{Move}
 use Rattle.fx_quota.specs.declared.types.Row.{Row}
 use Rattle.lock_db.specs.declared.name.LockName.TheVariants.{S, Q, V}
 use Rattle.plain_cat.specs.declared.history.Stage.{Stage}
+use Rattle.plain_cat.specs.declared.history.Stage.TheVariants as stage
 use Rattle.plain_cat.specs.declared.cat.Cat.{Cat}
 use Rattle.base_words.specs.Lists.{Has, Touches}
 use Rattle.vol_spell.specs.Owners.{Owners}
@@ -29,7 +30,9 @@ use Rattle.op_law.specs.Writing.{Held}
 use Rattle.op_law.specs.Quotas.{changed_write, owner_write, row_place}
 use Rattle.vol_spell.specs.Rows.{is_row_of}
 use Rattle.op_law.specs.Moving.{SeenDir, move_write, moves_at, insertion_moves, insertion_writes, removal_writes}
-use Rattle.op_law.specs.Freeing.{lies_in, blocks_for, storage_writes, index_write, freeing_tail}
+use Rattle.op_law.specs.Freeing.{lies_in, blocks_for, storage_writes, index_write, freeing_tail, all_clusters, headers_freed}
+use Rattle.op_law.specs.Headers.{slots_seen, numbers_of, slots_freed}
+use Rattle.op_law.specs.Refusing.{SeenFile}
 use Rattle.op_law.proofs.Naming.{both_named, under_lock, TouchesNoHeader}
 use Rattle.op_freeing.specs.BitmapWrites.{FreeingGuards}
 use Rattle.op_freeing.specs.Standing.{AreUnder, UnderLocks, UnderJoined, Guarded}
@@ -132,8 +135,13 @@ moves_under d before after k ms w t = elim (has_parted (map (move_write d before
   each s (m ∷ ns) (inl e) = inl (ap (λ (v : PlanWrite). v.lock) e)
   each s (m ∷ ns) (inr t) = each s ns t
 
+slots_under : (g : Geometry) (s : Stage) (qs ns : List ℕ) (slots : List (ℕ × Block)) → AreUnder (map S (slots_seen g slots)) (slots_freed g s qs ns slots)
+slots_under g s qs ns [] w t = absurd t
+slots_under g s qs ns (y ∷ slots) w (inl e) = inl (ap (λ (v : PlanWrite). v.lock) e)
+slots_under g s qs ns (y ∷ slots) w (inr t) = inr (slots_under g s qs ns slots w t)
+
 pub under_locks : UnderLocks
-unfolding owner_write insertion_writes removal_writes
+unfolding owner_write insertion_writes removal_writes headers_freed
 under_locks = record {
   row = λ g quota owner change s out. changed_under g quota change s out (row_place (is_row_of owner) quota);
   bitmaps = λ g s qs ns storage index w t. elim (has_parted (storage_writes g s qs ns (blocks_for g qs) storage) (index_write g s ns index) w t) [
@@ -141,6 +149,8 @@ under_locks = record {
     | inr u ↦ inl (of_index g s ns index w u).1
   ];
   header = λ g n b s out w t. elim t [ inl e ↦ inl (ap (λ (v : PlanWrite). v.lock) e) | inr f ↦ absurd f ];
+  slots = slots_under;
+  freed = λ g f w t. elim t [ inl e ↦ inl (ap (λ (v : PlanWrite). v.lock) e) | inr u ↦ inr (slots_under g stage.Freed (all_clusters g f) (numbers_of g f) f.rest w u) ];
   entered = λ d e before after. moves_under d before after _ (insertion_moves d e);
   removed = λ d e before after. moves_under d before after _ _;
 }

@@ -1,5 +1,5 @@
 -- Blocks that a lock guards stand after writes under other locks.
-use Rattle.std.proofs.Common.{◌≡◌, ◌≢◌, ℕ, List, [], ◌∷◌, Some, map, sym, ap, subst, ◌∙◌, inl, inr}
+use Rattle.std.proofs.Common.{◌≡◌, ◌≢◌, ℕ, List, [], ◌∷◌, Some, map, refl, sym, ap, subst, ◌∙◌, inl, inr}
 use Rattle.std.specs.Prelude.{slice_index_or}
 use Rattle.base_words.specs.Fields.{Block}
 use Rattle.lock_db.specs.declared.name.LockName.{LockName}
@@ -9,14 +9,13 @@ use Rattle.vol_spell.specs.Owners.{Owners}
 use Rattle.base_words.proofs.ListWrites.{get-written_else, stands_still}
 use Rattle.vol_spell.proofs.Placing.{blocks_kept}
 use Rattle.vol_parts.specs.declared.geometry.Geometry.{Geometry}
-use Rattle.vol_spell.specs.Reading.{header_place, header_block, told_of, body_places, body_blocks}
-use Rattle.vol_spell.proofs.Parts.{told as file_told}
+use Rattle.vol_spell.specs.Reading.{IsFileNumber, header_place, header_block, told_of, body_places, body_blocks}
+use Rattle.vol_spell.proofs.Parts.{told as file_told, slot_number}
 use Rattle.vol_spell.proofs.Frames.{told_kept}
 use Rattle.vol_under.specs.Guards.{Lock, Stock, guard_of}
 use Rattle.vol_under.specs.UnderWay.{bare}
 use Rattle.op_law.specs.declared.need.PlanWrite.{PlanWrite}
 use Rattle.op_law.specs.Laws.{planned}
-use Rattle.vol_spell.proofs.HeadSlots.{alone_slot}
 use Rattle.op_steps.specs.Chained.{TouchedBy, after_writes}
 use Rattle.op_freeing.specs.Standing.{AreBeside, OtherLocksStand, OtherFilesStand}
 use Rattle.op_freeing.proofs.Named.{touched_by, guarded}
@@ -43,11 +42,12 @@ other_locks_stand node locks g own ws name is = record {
 pub other_files_stand : OtherFilesStand
 other_files_stand node locks g base own c ws n s is beside =
     let after : List Block = after_writes ws base in
-    let still = other_locks_stand node locks g own ws (S n) beside in
+    let still = other_locks_stand node locks g own ws (S n) (beside n (inl refl)) in
     let by = guarded g base own c s in
     let head : header_block g after n ≡ header_block g base n =
     ap (λ (ys : List Block). slice_index_or ys 0 []) (still.many base (header_place g n ∷ []) (λ l t. elim t [ inl e ↦ ap (guard_of g own) (sym e) ∙ by.header n is | inr f ↦ absurd f ])) in
+    let there : (m : ℕ) → Has (n ∷ (told_of g base n).slots) m → IsFileNumber g m = λ m u. elim u [ inl e ↦ subst (IsFileNumber g) e is | inr v ↦ slot_number g base own c s n m is v ] in
     let apart : (l : ℕ) → TouchedBy ws l → (m : ℕ) → Has (n ∷ (told_of g base n).slots) m → header_place g m ≢ l =
-    λ l t m u e. still.untouched l (ap (guard_of g own) (sym (ap (header_place g) (alone_slot g base own c s n m is u) ∙ e)) ∙ by.header n is) t in
+    λ l t m u e. (other_locks_stand node locks g own ws (S m) (beside m u)).untouched l (ap (guard_of g own) (sym e) ∙ by.header m (there m u)) t in
     let told : told_of g after n ≡ told_of g base n = told_kept g (bare (map planned ws)) base n (file_told g base own c s n is).size apart in
     record { header = head; told = told; body = ap (body_blocks after n) told ∙ still.many base (body_places n (told_of g base n)) (λ l t. by.body n l is t) }

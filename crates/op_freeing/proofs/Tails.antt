@@ -75,12 +75,12 @@ not_q (inl e) = absurd (let f : V ≡ Q = e in cc)
 not_q (inr t) = t
 
 tail_leaves : (g : Geometry) (s : Stage) (qs ns : List ℕ) (owner : Uic) (less : ℕ) (last : Stage) (bs : List Block) (own : Owners) (x : Cat) → Spells g bs own x → FilesStay g bs (after_writes (tail_writes g s qs ns owner less last bs) bs)
-tail_leaves g s qs ns owner less last bs own x spelt i is = other_files_stand 1 (V ∷ Q ∷ []) g bs own x (tail_writes g s qs ns owner less last bs) i spelt is (record {
+tail_leaves g s qs ns owner less last bs own x spelt i is = other_files_stand 1 (V ∷ Q ∷ []) g bs own x (tail_writes g s qs ns owner less last bs) i spelt is (λ m t. record {
   named = tail_guards g s qs ns owner less last bs bs own x 1 (V ∷ Q ∷ []) spelt (inl refl) (inr (inl refl));
   names = V ∷ Q ∷ [];
   under = under_joined (V ∷ []) (Q ∷ []) (bitmaps_freed g s qs ns bs) (row_freed g owner less last bs) (under_locks.bitmaps g s qs ns (storage_seen g bs qs) (index_seen g bs))
       (under_locks.row g (blocks_at bs (quota_places g)) owner (row_discharged less) last empty_handed);
-  beside = no_file i;
+  beside = no_file m;
 })
 
 -- the writes of the bitmaps leave the quota blocks
@@ -94,7 +94,7 @@ quota_stays g s qs ns bs own x spelt =
     })).many bs (quota_places g) ((guarded g bs own x spelt).quota)
 
 pub tail_steps : (end : End) → TailSteps end
-tail_steps end k s qs ns owner less last ws x bs own spelt outs stage done rest =
+tail_steps end k s qs ns owner less last ws x bs own spelt outs blank stage done rest =
     let g : Geometry = k.geometry in
     let vs : List PlanWrite = bitmaps_freed g s qs ns bs in
     let us : List PlanWrite = row_freed g owner less last bs in
@@ -102,7 +102,7 @@ tail_steps end k s qs ns owner less last ws x bs own spelt outs stage done rest 
     let same : row_freed g owner less last mid ≡ us = ap (λ (quota : List Block). owner_write g quota owner (row_discharged less) last empty_handed) (quota_stays g s qs ns bs own x spelt) in
     let files = tail_leaves g s qs ns owner less last bs own x spelt in
     subst (λ (ps : List PlanWrite). StepsOf end k ps bs own) (sym (append_assoc vs us ws))
-    (freeing_steps end k s qs ns (us ++ ws) x bs own spelt outs stage (λ new on stays.
+    (freeing_steps end k s qs ns (us ++ ws) x bs own spelt outs blank stage (λ new on stays.
     subst (λ (ps : List PlanWrite). StepsOf end k (ps ++ ws) mid new) same
     (discharge_steps end k owner less last ws x mid new on done (λ on' stays'.
     let to : after_writes (row_freed g owner less last mid) mid ≡ after_writes (vs ++ us) bs = ap (λ (ps : List PlanWrite). after_writes ps mid) same ∙ sym (after_both vs us bs) in
@@ -175,7 +175,7 @@ tail_ends g s qs ns storage index quota owner less last are len =
 
 -- ---- how many file numbers are outside between them
 
-brought_count : (ns qs : List ℕ) → length (numbers_before ns (things qs None)).numbers ≡ length ns
+pub brought_count : (ns qs : List ℕ) → length (numbers_before ns (things qs None)).numbers ≡ length ns
 brought_count [] qs = refl
 brought_count (n ∷ ns) qs = let h = brought_count ns qs in omega arith
 

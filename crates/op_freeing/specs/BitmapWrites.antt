@@ -16,6 +16,7 @@ use Rattle.vol_spell.specs.Spelling.{Spells}
 use Rattle.vol_under.specs.UnderWay.{stage_after, outs_after}
 use Rattle.vol_under.specs.Chains.{End}
 use Rattle.vol_under.specs.Freeing.{FreesInTurn}
+use Rattle.vol_under.specs.Refilling.{HaveBlankSlots}
 use Rattle.op_law.specs.declared.need.PlanWrite.{PlanWrite}
 use Rattle.op_law.specs.Laws.{planned, AreNamed, LeaveFew, KeepsOut}
 use Rattle.op_law.specs.Freeing.{rising, blocks_for, storage_writes, freeing_tail}
@@ -69,11 +70,12 @@ ClustersFree = (g : Geometry) (s : Stage) (qs ns : List ℕ) (bs : List Block) (
 abbrev pub bitmaps_freed : Geometry → Stage → List ℕ → List ℕ → List Block → List PlanWrite
 bitmaps_freed g s qs ns bs = freeing_tail g s qs ns (storage_seen g bs qs) (index_seen g bs)
 
--- Where a command has these clusters and numbers outside, the writes are steps, all at this stage; after them it has nothing
--- outside, and each file is as it was. So are the writes behind them that are steps on what they leave.
+-- Where a command has these clusters and numbers outside, and the slots of the numbers are free, the writes are steps, all at this
+-- stage; after them it has nothing outside, and each file is as it was. So are the writes behind them that are steps on what they
+-- leave.
 abbrev pub FreeingSteps : End → Type 0
 FreeingSteps end = (k : Chain) (s : Stage) (qs ns : List ℕ) (ws : List PlanWrite) (x : Cat) (bs : List Block) (own : Owners)
-    → Spells k.geometry bs own x → Outs k.node own (brought qs ns) k.stock → StageOf k s x
+    → Spells k.geometry bs own x → Outs k.node own (brought qs ns) k.stock → HaveBlankSlots k.geometry bs (brought qs ns).numbers → StageOf k s x
     → ((new : Owners) → StandsOn k (record { clusters = []; number = None }) x (after_writes (bitmaps_freed k.geometry s qs ns bs) bs) new
     → FilesStay k.geometry bs (after_writes (bitmaps_freed k.geometry s qs ns bs) bs)
     → StepsOf end k ws (after_writes (bitmaps_freed k.geometry s qs ns bs) bs) new)

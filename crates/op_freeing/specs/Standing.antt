@@ -1,5 +1,5 @@
 -- Blocks that stand as they were seen, since none of the writes before touches them: these are under other locks.
-use Rattle.std.specs.Prelude.{◌≡◌, ◌++◌, ℕ, List, [], ◌∷◌, Some, slice_get}
+use Rattle.std.specs.Prelude.{◌≡◌, ◌++◌, ℕ, List, [], ◌∷◌, Some, map, slice_get}
 use Rattle.base_words.specs.Fields.{Block}
 use Rattle.fx_quota.specs.declared.types.Row.{Row}
 use Rattle.lock_db.specs.declared.name.LockName.{LockName}
@@ -22,7 +22,9 @@ use Rattle.op_law.specs.declared.need.PlanWrite.{PlanWrite}
 use Rattle.op_law.specs.Laws.{AreNamed}
 use Rattle.op_law.specs.Writing.{Held, header_write}
 use Rattle.op_law.specs.Quotas.{owner_write}
-use Rattle.op_law.specs.Freeing.{freeing_tail}
+use Rattle.op_law.specs.Freeing.{freeing_tail, headers_freed}
+use Rattle.op_law.specs.Headers.{slots_seen, numbers_of, slots_freed}
+use Rattle.op_law.specs.Refusing.{SeenFile}
 use Rattle.op_law.specs.Moving.{SeenDir, insertion_writes, removal_writes}
 use Rattle.op_steps.specs.Chained.{TouchedBy, after_writes}
 use Rattle.op_freeing.specs.BitmapWrites.{storage_places}
@@ -33,12 +35,14 @@ use Rattle.op_freeing.specs.BitmapWrites.{storage_places}
 abbrev pub AreUnder : List LockName → List PlanWrite → Type 0
 AreUnder names ws = (w : PlanWrite) → Has ws w → Has names w.lock
 
--- the kinds of writes are under one lock each: a row under Q, bitmaps under V, a header under its file's, an entry under its
--- directory's
+-- the kinds of writes are under one lock each: a row under Q, bitmaps under V, a header under that of its number, an entry under its
+-- directory's; slots that become free are under those of their numbers
 pub record UnderLocks : Type 0 where
   pub row : (g : Geometry) (quota : List Block) (owner : Uic) (change : Row → Row) (s : Stage) (out : Held) → AreUnder (Q ∷ []) (owner_write g quota owner change s out)
   pub bitmaps : (g : Geometry) (s : Stage) (qs ns : List ℕ) (storage : List Block) (index : Block) → AreUnder (V ∷ []) (freeing_tail g s qs ns storage index)
   pub header : (g : Geometry) (n : ℕ) (b : Block) (s : Stage) (out : Held) → AreUnder (S n ∷ []) (header_write g n b s out ∷ [])
+  pub slots : (g : Geometry) (s : Stage) (qs ns : List ℕ) (slots : List (ℕ × Block)) → AreUnder (map S (slots_seen g slots)) (slots_freed g s qs ns slots)
+  pub freed : (g : Geometry) (f : SeenFile) → AreUnder (map S (numbers_of g f)) (headers_freed g f)
   pub entered : (d : SeenDir) (e : DirEnt) (before after : Stage) → AreUnder (S d.fid.num ∷ []) (insertion_writes d e before after)
   pub removed : (d : SeenDir) (e : DirEnt) (before after : Stage) → AreUnder (S d.fid.num ∷ []) (removal_writes d e before after)
 
@@ -48,8 +52,8 @@ UnderJoined = (names others : List LockName) (vs ws : List PlanWrite) → AreUnd
 
 -- ---- which lock guards a block
 
--- On blocks that spell a catalogue, Q guards the quota blocks, V those of both bitmaps, and the lock of a file its header and its
--- blocks.
+-- On blocks that spell a catalogue, Q guards the quota blocks, V those of both bitmaps, the lock of a number its header slot, and the
+-- lock of a file its blocks.
 pub record GuardedBy (g : Geometry) (base : List Block) (own : Owners) : Type 0 where
   pub quota : (l : ℕ) → Has (quota_places g) l → guard_of g own l ≡ Some (Lock Q)
   pub storage : (qs : List ℕ) (l : ℕ) → Has (storage_places g qs) l → guard_of g own l ≡ Some (Lock V)
@@ -80,7 +84,7 @@ pub record StandStill (node : ℕ) (locks : List LockName) (g : Geometry) (own :
 abbrev pub OtherLocksStand : Type 0
 OtherLocksStand = (node : ℕ) (locks : List LockName) (g : Geometry) (own : Owners) (ws : List PlanWrite) (name : LockName) → AreBeside node locks g own ws name → StandStill node locks g own ws name
 
--- so a file stands, its header and its blocks, after writes that are all under other locks than the file's
+-- so a file stands, its headers and its blocks, after writes that are all under other locks than those of its headers
 abbrev pub OtherFilesStand : Type 0
 OtherFilesStand = (node : ℕ) (locks : List LockName) (g : Geometry) (base : List Block) (own : Owners) (c : Cat) (ws : List PlanWrite) (n : ℕ) → Spells g base own c → IsFileNumber g n
-    → AreBeside node locks g own ws (S n) → IsSameFile g base (after_writes ws base) n
+    → ((m : ℕ) → Has (n ∷ (told_of g base n).slots) m → AreBeside node locks g own ws (S m)) → IsSameFile g base (after_writes ws base) n

@@ -15,6 +15,7 @@ use Rattle.vol_spell.specs.Reading.{quota_places}
 use Rattle.vol_spell.specs.Spelling.{Spells}
 use Rattle.vol_under.specs.UnderWay.{stage_after, outs_after}
 use Rattle.vol_under.specs.Chains.{End}
+use Rattle.vol_under.specs.Refilling.{HaveBlankSlots}
 use Rattle.op_law.specs.declared.need.PlanWrite.{PlanWrite}
 use Rattle.op_law.specs.Laws.{planned, AreNamed, most_outside, LeaveFew}
 use Rattle.op_law.specs.Writing.{empty_handed}
@@ -42,12 +43,12 @@ DischargeSteps end = (k : Chain) (owner : Uic) (less : ℕ) (s : Stage) (ws : Li
 abbrev pub tail_writes : Geometry → Stage → List ℕ → List ℕ → Uic → ℕ → Stage → List Block → List PlanWrite
 tail_writes g s qs ns owner less last bs = bitmaps_freed g s qs ns bs ++ row_freed g owner less last bs
 
--- Where a command has these clusters and numbers outside, the writes are steps: those of the bitmaps at the stage s, and that of
--- the row at the last stage. After them it has nothing outside, the owner's usage is lower, and each file is as it was. So are
--- the writes behind them that are steps on what they leave.
+-- Where a command has these clusters and numbers outside, and the slots of the numbers are free, the writes are steps: those of the
+-- bitmaps at the stage s, and that of the row at the last stage. After them it has nothing outside, the owner's usage is lower, and
+-- each file is as it was. So are the writes behind them that are steps on what they leave.
 abbrev pub TailSteps : End → Type 0
 TailSteps end = (k : Chain) (s : Stage) (qs ns : List ℕ) (owner : Uic) (less : ℕ) (last : Stage) (ws : List PlanWrite) (x : Cat) (bs : List Block) (own : Owners)
-    → Spells k.geometry bs own x → Outs k.node own (brought qs ns) k.stock → StageOf k s x → StageOf k last (discharged x owner less)
+    → Spells k.geometry bs own x → Outs k.node own (brought qs ns) k.stock → HaveBlankSlots k.geometry bs (brought qs ns).numbers → StageOf k s x → StageOf k last (discharged x owner less)
     → ((new : Owners) → StandsOn k empty_handed (discharged x owner less) (after_writes (tail_writes k.geometry s qs ns owner less last bs) bs) new
     → FilesStay k.geometry bs (after_writes (tail_writes k.geometry s qs ns owner less last bs) bs)
     → StepsOf end k ws (after_writes (tail_writes k.geometry s qs ns owner less last bs) bs) new)

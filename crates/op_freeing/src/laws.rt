@@ -21,8 +21,9 @@ pub fn clusters_free()
     ensures { ClustersFree }
 {}
 
-/// The writes of both bitmaps are steps of a plan that has these clusters and numbers outside. After them it has nothing outside,
-/// the catalogue is the same, and each file is as it was. So are the writes behind them that are steps on what they leave.
+/// The writes of both bitmaps are steps of a plan that has these clusters and numbers outside, if the slots of the numbers are free.
+/// After them it has nothing outside, the catalogue is the same, and each file is as it was. So are the writes behind them that are
+/// steps on what they leave.
 pub fn freeing_steps()
     ensures { FreeingSteps anywhere }
 {}
@@ -48,8 +49,9 @@ pub fn discharge_steps()
     ensures { DischargeSteps anywhere }
 {}
 
-/// The writes of the bitmaps and then that of the row, all by the blocks as they stand before the first, are steps: what was
-/// outside is free, and the owner's usage is lower. So are the writes behind them that are steps on what they leave.
+/// The writes of the bitmaps and then that of the row, all by the blocks as they stand before the first, are steps, if the slots of
+/// the numbers that are outside are free: what was outside is free then, and the owner's usage is lower. So are the writes behind
+/// them that are steps on what they leave.
 pub fn tail_steps()
     ensures { TailSteps anywhere }
 {}
@@ -100,7 +102,7 @@ pub fn other_locks_stand()
     ensures { OtherLocksStand }
 {}
 
-/// So a file stands, its header and its blocks, after writes that are all under other locks than the file's.
+/// So a file stands, its headers and its blocks, after writes that are all under other locks than those of its headers.
 pub fn other_files_stand()
     ensures { OtherFilesStand }
 {}

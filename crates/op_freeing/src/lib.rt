@@ -27,10 +27,12 @@ pub mod gone_laws;
 mod gone_looking;
 pub mod laws;
 mod looking;
+mod slots;
 mod writing;
 
 pub use bitmaps::{blocks_for, push_freeing, push_index, push_storage, rising};
 pub use clusters::all_clusters;
 pub use gone_looking::{Space, SpaceSeen, space_seen};
 pub use looking::storage_seen;
+pub use slots::{all_numbers, push_slots, slot_seq};
 pub use writing::push_gone;

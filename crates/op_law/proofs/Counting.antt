@@ -55,7 +55,8 @@ use Rattle.op_law.specs.Writing.{Held, empty_handed}
 use Rattle.op_law.specs.Quotas.{row_place, changed_write, row_discharged, owner_write, through_quota}
 use Rattle.vol_spell.specs.Rows.{is_row_of}
 use Rattle.op_law.specs.Moving.{SeenDir, moves_at, move_write, insertion_moves, insertion_writes, removal_writes}
-use Rattle.op_law.specs.Freeing.{SeenSpace, lies_in, blocks_for, storage_writes, index_write, freeing_tail, freeing_writes, all_clusters}
+use Rattle.op_law.specs.Freeing.{SeenSpace, lies_in, blocks_for, storage_writes, index_write, freeing_tail, headers_freed, freeing_writes, all_clusters}
+use Rattle.op_law.specs.Headers.{numbers_of, slots_freed}
 use Rattle.op_law.proofs.Heads.{header_is}
 use Rattle.op_law.proofs.Telling.{number_is, live_reads}
 use Rattle.op_law.proofs.Brief.{BriefBy, brief_more}
@@ -319,12 +320,17 @@ tail_few g s qs numbers storage index geo =
     let a = length-append (storage_writes g s qs numbers (blocks_for g qs) storage) (index_write g s numbers index) in
     omega (arith, bitmap_few g qs geo, storage_few g s qs numbers (blocks_for g qs) storage, index_few g s numbers index)
 
--- and of a file that goes
-pub freeing_few : (g : Geometry) (f : SeenFile) (s : SeenSpace) → IsGeometry g → length (freeing_writes g f s) ≤ 19
-unfolding freeing_writes
+-- and of a file that goes, one more for each header behind the first
+pub freeing_few : (g : Geometry) (f : SeenFile) (s : SeenSpace) → IsGeometry g → length (freeing_writes g f s) ≤ 19 + length f.rest
+unfolding freeing_writes headers_freed
 freeing_few g f s geo =
     let qs = all_clusters g f in
-    let tail = freeing_tail g stage.Freed qs (f.num ∷ []) s.storage s.index in
+    let ns = numbers_of g f in
+    let heads = headers_freed g f in
+    let slots = slots_freed g stage.Freed qs ns f.rest in
+    let tail = freeing_tail g stage.Freed qs ns s.storage s.index in
     let row = owner_write g s.quota f.file.owner (row_discharged (g.cluster * f.file.clusters + 1)) stage.Done empty_handed in
-    let a = length-append tail row in
-    omega (arith, tail_few g stage.Freed qs (f.num ∷ []) s.storage s.index geo, owner_few g s.quota f.file.owner (row_discharged (g.cluster * f.file.clusters + 1)) stage.Done empty_handed)
+    let all = length-append heads (tail ++ row) in
+    let behind = length-append tail row in
+    let many : length slots ≡ length f.rest = length-map f.rest _ in
+    omega (arith, tail_few g stage.Freed qs ns s.storage s.index geo, owner_few g s.quota f.file.owner (row_discharged (g.cluster * f.file.clusters + 1)) stage.Done empty_handed)

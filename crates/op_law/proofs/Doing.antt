@@ -29,7 +29,7 @@ use Rattle.op_law.specs.Knows.{knows}
 use Rattle.op_law.specs.Needs.{events_of, IsNext}
 use Rattle.op_law.specs.Fits.{HasSeen, things, IsSeenOn}
 use Rattle.op_law.specs.Rows.{plain_plan}
-use Rattle.op_law.specs.Laws.{held_in, planned, under_way, MayNeed, AreNamed, LeavesDirs, KeepsOut, IsRight, WritesNothing, IsPlan, Lawful}
+use Rattle.op_law.specs.Laws.{held_in, planned, under_way, MayNeed, AreNamed, LeavesDirs, LeavesSlots, KeepsOut, IsRight, WritesNothing, IsPlan, Lawful}
 use Rattle.op_law.proofs.Walking.{EveryPlan, every_plan, ObeysBy, IsFine, next_fine, may_need}
 use Rattle.op_law.proofs.Brief.{Briefs, briefs}
 use Rattle.op_law.proofs.Ends.{LeavesNothing, EndsBy, left_by}
@@ -49,6 +49,7 @@ module _ (x : Cmd) (node : ℕ) (seen : Seen) where
   pub record AreDone (bs : List Block) (own : Owners) (c : Cat) (stock : Things) (held : List (LockName × Mode)) (ws : List PlanWrite) (r : Reply) : Type 0 where
     pub named : AreNamed node (held_in PW held) seen.geometry own ws
     pub dirs : LeavesDirs seen.geometry bs ws
+    pub slots : LeavesSlots seen.geometry own (things seen.clusters seen.number) ws
     pub kept_out : KeepsOut (things seen.clusters seen.number) (held_in PW held) ws
     pub steps : Steps (Replied seen.geometry node (under_way x seen ws (knows node x seen)) x r c stock) seen.geometry node (Some x) (held_in PW held) c stock (map planned ws) bs own
 
@@ -59,7 +60,7 @@ module _ (x : Cmd) (node : ℕ) (seen : Seen) where
   -- a refusal that is the command's answer
   pub refusal_done : (bs : List Block) (own : Owners) (c : Cat) (stock : Things) → Spells seen.geometry bs own c → Outs node own (things seen.clusters seen.number) stock → (r : Refusal) → Answer c node x (reply.Refused r) c
       → (held : List (LockName × Mode)) → IsDone bs own c stock held (plain_plan (reply.Refused r))
-  refusal_done bs own c stock s outs r answer held = record { named = λ w t. absurd t; dirs = λ w t. absurd t; kept_out = λ w t. absurd t; steps = (c, stands_first c node (Some x), s, outs, c.opens, answer) }
+  refusal_done bs own c stock s outs r answer held = record { named = λ w t. absurd t; dirs = λ w t. absurd t; slots = λ w t. absurd t; kept_out = λ w t. absurd t; steps = (c, stands_first c node (Some x), s, outs, c.opens, answer) }
 
   -- writes that are done on all blocks that have what was seen, and on which this is known, are right with their reply
   pub done_right : (know : Cat → Bool) (ws : List PlanWrite) (r : Reply)
@@ -75,6 +76,7 @@ module _ (x : Cmd) (node : ℕ) (seen : Seen) where
         reply = steps_reply seen.geometry node u x r chain;
         left = left;
         dirs = λ base own c stock s known stands outs. (done base own c stock s known stands outs).dirs;
+        slots = λ base own c stock s known stands outs. (done base own c stock s known stands outs).slots;
         kept_out = λ base own c stock s known stands outs. (done base own c stock s known stands outs).kept_out;
       }
 

@@ -27,7 +27,8 @@ use Rattle.op_law.specs.Events.{Events, Take, Look, Space, Follows}
 use Rattle.op_law.specs.Rows.{is_number, refuses, live_in, look_all, in_directory, through_directory}
 use Rattle.op_law.proofs.Heads.{header_is}
 use Rattle.op_law.proofs.Telling.{number_is, live_reads}
-use Rattle.vol_spell.proofs.HeadSlots.{file_told_at, file_blocks}
+use Rattle.vol_spell.specs.Files.{blocks_told}
+use Rattle.vol_spell.proofs.HeadSlots.{file_told_at}
 
 -- blocks that were looked at in turn are those at their places
 looked_at : (bs : List Block) (name : LockName) (ls : List ℕ) (next : List Block → Events) (locks : List (LockName × Mode)) (seen : List (ℕ × Block)) (space : Space) (given : Type 0)
@@ -43,7 +44,7 @@ module _ (g : Geometry) (bs : List Block) (own : Owners) (c : Cat) (s : Spells g
   -- the blocks of a directory in use are read
   body_read : (n : ℕ) (h : Hdr) → IsFileNumber g n → head_told (header_block g bs n) ≡ Ok (head.Used h) → h.dir ≡ true → IsOk (directory (blocks_at bs (places_in (header_block g bs n))))
   body_read n h is e d =
-      let at = dir_at g bs own c s n is (file_of g.cluster n h (file_blocks bs (header_block g bs n))) (file_told_at g bs own c s n h is e) d in
+      let at = dir_at g bs own c s n is (file_of g.cluster n h (blocks_told g bs n)) (file_told_at g bs own c s n h is e) d in
       subst IsOk (sym at.read) refl
 
   module _ (fid : Fid) (next : Block → List Block → Events) (space : Space) (given : Type 0) where

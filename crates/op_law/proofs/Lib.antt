@@ -25,3 +25,7 @@ pub mod Spaceless
 pub mod Opens
 pub mod Freed
 pub mod SeenRuns
+pub mod Levels
+pub mod Chains
+pub mod Links
+pub mod LinksSeen

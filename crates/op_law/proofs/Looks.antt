@@ -24,7 +24,9 @@ use Rattle.vol_spell.proofs.Frames.{of_body, on_volume}
 use Rattle.vol_spell.proofs.Told.{no_dir, no_directory, which_structure}
 use Rattle.vol_under.specs.Guards.{Lock, guard_by, guard_of}
 use Rattle.op_law.specs.Laws.{IsCacheable, Fixed, OfDirectory}
-use Rattle.vol_spell.proofs.HeadSlots.{file_blocks, file_told_at, alone_runs}
+use Rattle.vol_spell.specs.Files.{blocks_told}
+use Rattle.vol_spell.proofs.HeadSlots.{file_told_at, dir_runs}
+use Rattle.op_law.proofs.Heads.{dir_told}
 
 -- a block of the volume that the lock of a file guards, and that may be cached
 pub record IsUnder (g : Geometry) (bs : List Block) (own : Owners) (c : Cat) (n l : ℕ) : Type 0 where
@@ -62,10 +64,10 @@ module _ (g : Geometry) (bs : List Block) (own : Owners) (c : Cat) (s : Spells g
       → Has (lbns_in (runs_told (header_block g bs n))) l → IsUnder g bs own c n l
   block_under n l h is e d t =
       let P : Bool → Type 0 = λ k. Has (cond k [] (lbns_in (told_of g bs n).runs)) l in
-      let there : Has (lbns_in (told_of g bs n).runs) l = subst (λ (rs : List Run). Has (lbns_in rs) l) (sym (alone_runs g bs own c s n is)) t in
+      let there : Has (lbns_in (told_of g bs n).runs) l = subst (λ (rs : List Run). Has (lbns_in rs) l) (dir_told g bs own c s n h is e d ∙ sym (dir_runs g bs own c s n h is e d)) t in
       let o : IsOfBody g bs own n l = of_body g bs own c s n l is (subst P (sym (plain_directory n h e d)) there) in
       record {
-        kind = OfDirectory n (file_of g.cluster n h (file_blocks bs (header_block g bs n))) (file_told_at g bs own c s n h is e) d o.owned;
+        kind = OfDirectory n (file_of g.cluster n h (blocks_told g bs n)) (file_told_at g bs own c s n h is e) d o.owned;
         guard = ap (λ p. guard_by p (owner_at g own l)) o.no_part ∙ ap (λ x. guard_by None x) o.owned;
         within = o.within;
       }

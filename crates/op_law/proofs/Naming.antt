@@ -1,9 +1,10 @@
--- Writes under the locks that they name, and writes that leave the runs of directories.
-use Rattle.std.proofs.Common.{◌≡◌, ◌∙◌, inl, inr, ℕ, List, [], ◌∷◌, ◌++◌, Option, Some, map, refl, sym, ap, subst}
+-- Writes under the locks that they name, writes that leave the runs of directories, and writes to header slots that may get them.
+use Rattle.std.proofs.Common.{◌≡◌, ◌-◌, ◌∙◌, inl, inr, ℕ, List, [], ◌∷◌, ◌++◌, Option, Some, map, slice_get, refl, sym, ap, subst}
 use Rattle.base_words.specs.Fields.{Block}
 use Rattle.lock_db.specs.declared.name.LockName.{LockName}
 use Rattle.base_words.specs.Lists.{Has, Touches}
-use Rattle.vol_spell.specs.Owners.{Owners}
+use Rattle.vol_spell.specs.declared.owner.Owner.TheVariants.{InFile}
+use Rattle.vol_spell.specs.Owners.{Owners, Things}
 use Rattle.base_words.proofs.Listing.{has_parted}
 use Rattle.vol_parts.specs.declared.geometry.Geometry.{Geometry}
 use Rattle.vol_parts.specs.declared.geometry.Part.TheVariants.{Header}
@@ -11,7 +12,7 @@ use Rattle.vol_parts.specs.Parts.{part_of}
 use Rattle.vol_under.specs.Guards.{Guard, Lock, Stock, guard_of, MayWrite}
 use Rattle.vol_under.specs.UnderWay.{bare}
 use Rattle.op_law.specs.declared.need.PlanWrite.{PlanWrite}
-use Rattle.op_law.specs.Laws.{planned, IsNamed, AreNamed, LeavesDirs}
+use Rattle.op_law.specs.Laws.{planned, IsNamed, AreNamed, LeavesDirs, MayFill, OfFile, Given, LeavesSlots}
 
 may_write : (node : ℕ) (locks : List LockName) (name : LockName) (o : Option Guard) → IsNamed node locks name o → MayWrite node locks o
 may_write node locks name o is = elim is.guards [
@@ -50,3 +51,29 @@ module _ (g : Geometry) (base : List Block) where
 
   pub no_header_leaves : (ws : List PlanWrite) → TouchesNoHeader g ws → LeavesDirs g base ws
   no_header_leaves ws none w t i at = absurd (none w t i at)
+
+-- ---- writes to header slots
+
+module _ (g : Geometry) (own : Owners) (took : Things) where
+  pub both_fill : (vs ws : List PlanWrite) → LeavesSlots g own took vs → LeavesSlots g own took ws → LeavesSlots g own took (vs ++ ws)
+  both_fill vs ws first behind w t = elim (has_parted vs ws w t) [ inl h ↦ first w h | inr h ↦ behind w h ]
+
+  pub no_header_fills : (ws : List PlanWrite) → TouchesNoHeader g ws → LeavesSlots g own took ws
+  no_header_fills ws none w t i at = absurd (none w t i at)
+
+  -- a write to the header of a number, whose slot may get the block
+  pub header_fills : (n : ℕ) (w : PlanWrite) → part_of g w.lbn ≡ Some (Header n) → MayFill own took n w.block → LeavesSlots g own took (w ∷ [])
+  header_fills n w there may v (inl e) i at =
+      let P : PlanWrite → Type 0 = λ u. part_of g u.lbn ≡ Some (Header i) in
+      let one : Some (Header n) ≡ Some (Header i) = sym there ∙ subst P (sym e) at in
+      let same : n ≡ i = (cc) in
+      subst (λ u. MayFill own took i u.block) e (subst (λ k. MayFill own took k w.block) same may)
+  header_fills n w there may v (inr none) i at = absurd none
+
+  -- it may get each block, if the number is a file's
+  pub file_fills : (n k : ℕ) (w : PlanWrite) → part_of g w.lbn ≡ Some (Header n) → slice_get own.numbers (n - 1) ≡ Some (InFile k) → LeavesSlots g own took (w ∷ [])
+  file_fills n k w there owned = header_fills n w there (OfFile k owned)
+
+  -- or if it was given to the command
+  pub given_fills : (n : ℕ) (w : PlanWrite) → part_of g w.lbn ≡ Some (Header n) → Has took.numbers (n - 1) → LeavesSlots g own took (w ∷ [])
+  given_fills n w there given = header_fills n w there (Given given)

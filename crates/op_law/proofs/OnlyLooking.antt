@@ -71,6 +71,7 @@ module _ (x : Cmd) (looks : OnlyLooks x) where
         record {
           named = λ base own c stock spelt known stands outs w h. absurd (subst (λ ws. Has ws w) is_plain.writes h);
           dirs = λ base own c stock spelt known stands outs w h. absurd (subst (λ ws. Has ws w) is_plain.writes h);
+          slots = λ base own c stock spelt known stands outs w h. absurd (subst (λ ws. Has ws w) is_plain.writes h);
           kept_out = λ base own c stock spelt known stands outs w h. absurd (subst (λ ws. Has ws w) is_plain.writes h);
           guarded = λ base own c stock spelt known stands outs l touches. absurd (subst (λ ws. Touches (bare ws) l) no_writes touches);
           lawful = idle_lawful seen.geometry node u no_writes;

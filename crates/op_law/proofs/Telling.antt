@@ -23,7 +23,8 @@ use Rattle.vol_spell.specs.Spelling.{Spells}
 use Rattle.vol_spell.specs.Entries.{places_in}
 use Rattle.vol_parts.specs.Chains.{cut}
 use Rattle.vol_parts.proofs.Sizes.{length-lbns_in}
-use Rattle.vol_spell.proofs.HeadSlots.{reads_fields, reads_runs, slot_is, file_blocks}
+use Rattle.vol_spell.specs.Files.{blocks_told}
+use Rattle.vol_spell.proofs.HeadSlots.{reads_fields, reads_runs, slot_is}
 use Rattle.vol_spell.proofs.OneHeader.{alone_size}
 use Rattle.op_law.specs.Readable.{HasMap, EndsInside, ListsInside, AreInside}
 use Rattle.op_law.specs.Rows.{is_number, live_header, live_in}
@@ -69,10 +70,10 @@ number_is g fid e = record { from = grind (arith, nat_tests); to = grind (arith,
 module _ (g : Geometry) (bs : List Block) (own : Owners) (c : Cat) (s : Spells g bs own c) where
   -- the live file under an identifier, by the header of its number
   pub live_is : (fid : Fid) → IsFileNumber g fid.num
-      → live c fid ≡ option_map (λ h. file_of g.cluster fid.num h (file_blocks bs (header_block g bs fid.num))) (live_in fid.seq (header_block g bs fid.num))
+      → live c fid ≡ option_map (λ h. file_of g.cluster fid.num h (blocks_told g bs fid.num)) (live_in fid.seq (header_block g bs fid.num))
   live_is fid is =
       ap (λ x. unmarked (of_seq fid.seq (file_in x))) (slot_is g bs own c s fid.num is)
-      ∙ live_slot g.cluster fid.num fid.seq (head_told (header_block g bs fid.num)) (file_blocks bs (header_block g bs fid.num))
+      ∙ live_slot g.cluster fid.num fid.seq (head_told (header_block g bs fid.num)) (blocks_told g bs fid.num)
 
   -- and none, where the number is out of range
   pub not_live : (fid : Fid) → is_number g fid ≡ false → live c fid ≡ None
@@ -86,7 +87,7 @@ module _ (b : Block) (h : Hdr) (reads : head_told b ≡ Ok (head.Used h)) (dir :
   directory_count =
       let told = reads_fields b h reads in
       let whole : cut h.blocks (runs_in b) ≡ runs_in b = sym (reads_runs b h reads) ∙ inside.dir h told dir in
-      length-lbns_in (runs_in b) ∙ ap blocks_in (sym whole) ∙ alone_size h b (inside.enough h told)
+      length-lbns_in (runs_in b) ∙ ap blocks_in (sym whole) ∙ alone_size h b (inside.enough h told dir)
 
   -- and all of its runs are inside
   pub directory_inside : ListsInside b

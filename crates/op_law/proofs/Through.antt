@@ -41,9 +41,10 @@ use Rattle.vol_spell.specs.Entries.{places_in}
 use Rattle.op_law.specs.Quotas.{through_quota}
 use Rattle.op_law.specs.Order.{IsBefore}
 use Rattle.op_law.specs.Laws.{held_in, ComesInTurn, Fixed, IsLockedLook}
-use Rattle.op_law.proofs.Heads.{header_is}
+use Rattle.op_law.proofs.Heads.{header_is, dir_told}
 use Rattle.op_law.proofs.Telling.{live_reads, live_is, not_live, number_is}
-use Rattle.vol_spell.proofs.HeadSlots.{alone_runs, dir_runs, file_blocks}
+use Rattle.vol_spell.specs.Files.{blocks_told}
+use Rattle.vol_spell.proofs.HeadSlots.{dir_runs}
 use Rattle.op_law.proofs.Looks.{IsUnder, header_under, block_under}
 use Rattle.op_law.proofs.Walking.{ObeysBy}
 
@@ -93,7 +94,7 @@ abbrev pub file_header : List Block → Geometry → Fid → Block
 file_header bs g fid = header_block g bs fid.num
 
 abbrev pub file_told : List Block → Geometry → Fid → Hdr → File
-file_told bs g fid f = file_of g.cluster fid.num f (file_blocks bs (file_header bs g fid))
+file_told bs g fid f = file_of g.cluster fid.num f (blocks_told g bs fid.num)
 
 abbrev pub listed_blocks : List Block → Geometry → Fid → List Block
 listed_blocks bs g fid = blocks_at bs (places_in (file_header bs g fid))
@@ -117,7 +118,7 @@ module _ (x : Cmd) (g : Geometry) (bs : List Block) (own : Owners) (c : Cat) (s 
 
   -- it comes behind all of these locks
   abbrev IsBehind : List (LockName × Mode) → LockName → Type 0
-  IsBehind held name = (other : LockName) → Has (map (λ l. l.0) held) other → IsBefore c other name
+  IsBehind held name = (other : LockName) → Has (map (λ l. l.0) held) other → IsBefore g bs own c other name
 
   pub all_obeys : (name : LockName) (held : List (LockName × Mode)) (ls : List ℕ) (next : List Block → Events) → ((l : ℕ) → Has ls l → IsLockedLook g bs own c held name l)
       → O (next (blocks_at bs ls)) held → O (look_all name ls next) held
@@ -186,9 +187,9 @@ module _ (x : Cmd) (g : Geometry) (bs : List Block) (own : Owners) (c : Cat) (s 
           → O (look_all (S fid.num) (places_in (file_header bs g fid)) (next (file_header bs g fid))) file_held
       in_dir is f e d =
           let reads : head_told (file_header bs g fid) ≡ Ok (head.Used f) = live_reads fid.seq (head_told (file_header bs g fid)) f e in
-          let places : lbns_in (runs_told (file_header bs g fid)) ≡ places_in (file_header bs g fid) = ap lbns_in (sym (alone_runs g bs own c s fid.num is) ∙ dir_runs g bs own c s fid.num f is reads d) in
+          let places : lbns_in (runs_told (file_header bs g fid)) ≡ places_in (file_header bs g fid) = ap lbns_in (dir_told g bs own c s fid.num f is reads d) in
           let entries : (file_told bs g fid f).entries ≡ entries_seen (listed_blocks bs g fid) =
-          ap (λ t. cond t (plain_entries (directory (file_blocks bs (file_header bs g fid)))) []) d ∙ ap (λ ls. entries_seen (blocks_at bs ls)) places in
+          ap (λ t. cond t (plain_entries (directory (blocks_told g bs fid.num))) []) d ∙ ap (λ rs. entries_seen (blocks_at bs (lbns_in rs))) (dir_runs g bs own c s fid.num f is reads d) in
           all_obeys (S fid.num) file_held (places_in (file_header bs g fid)) (next (file_header bs g fid))
           (λ l m. under held mode allowed fid.num l (block_under g bs own c s fid.num l f is reads d (subst (λ ls. Has ls l) (sym places) m)))
           (listed f (record { number = is; header = e; dir = d; live = lives is (Some f) e; entries = entries }))

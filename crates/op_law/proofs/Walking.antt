@@ -64,7 +64,7 @@ module _ (x : Cmd) (g : Geometry) (bs : List Block) (own : Owners) (c : Cat) (se
   -- The events of the command, which holds these locks by then, are such as it may need on these blocks, and with the space
   -- that was given each plan that it may come to on them, holding locks, is so.
   abbrev pub ObeysBy : Events → List (LockName × Mode) → Type 0
-  ObeysBy (Take name mode next) held = IsNewLock x c held seen.number name mode × ObeysBy next (held ++ (name, mode) ∷ [])
+  ObeysBy (Take name mode next) held = IsNewLock x g bs own c held seen.number name mode × ObeysBy next (held ++ (name, mode) ∷ [])
   ObeysBy (Look name lbn next) held = IsLockedLook g bs own c held name lbn × ((b : Block) → slice_get bs lbn ≡ Some b → ObeysBy (next b) held)
   ObeysBy (Fetch lbn next) held = IsGuardedLook g bs own held lbn × ((b : Block) → slice_get bs lbn ≡ Some b → ObeysBy (next b) held)
   ObeysBy (Find clusters number next) held = IsSearch x held (wanted seen x) clusters number
@@ -106,7 +106,7 @@ module _ (x : Cmd) (seen : Seen) (bs : List Block) (own : Owners) (c : Cat) (P :
   walks : (es : Events) (given : Type 0) (held locks : List (LockName × Mode)) (blocks : List (ℕ × Block)) → Walks es given held locks blocks
   walks (Take name mode next) given held [] blocks e stands r o f =
       let all = all_held held [] e refl in
-      subst (λ ls. IsNewLock x c ls seen.number name mode) all o.0
+      subst (λ ls. IsNewLock x seen.geometry bs own c ls seen.number name mode) all o.0
   walks (Take name mode next) given held (l ∷ locks) blocks e stands r o f =
       walks next given (held ++ (name, mode) ∷ []) locks blocks (e ∙ ap (λ k. held ++ k ∷ locks) f.0 ∙ sym (append_assoc held ((name, mode) ∷ []) locks)) stands r o.1 f.1
   walks (Look name lbn next) given held locks [] e stands r o f =

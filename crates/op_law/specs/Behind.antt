@@ -1,6 +1,7 @@
 -- What comes next behind the first of what a command has seen.
-use Rattle.std.specs.Prelude.{◌≡◌, ◌≤◌, ℕ, List, [], ◌∷◌, Option, Some, None, map, length, take}
+use Rattle.std.specs.Prelude.{◌≡◌, ◌≤◌, ℕ, List, [], ◌∷◌, Option, Some, None, length, take}
 use Rattle.base_words.specs.Fields.{Block}
+pub use Rattle.base_words.specs.Fields.{blocks_alone}
 use Rattle.op_law.specs.declared.need.Need.{Need}
 use Rattle.op_law.specs.declared.seeing.Rest.{Rest}
 use Rattle.op_law.specs.declared.seeing.Granted.{Granted}
@@ -25,10 +26,6 @@ FollowsBy es rest space = Follows es rest.locks.now rest.blocks.now space (HasNo
 -- the same of all that was seen
 abbrev pub HasFirst : Events → Seen → Type 0
 HasFirst es seen = Follows es seen.locks seen.blocks (space_of seen) (HasNoSpace (space_of seen))
-
--- the blocks alone, of blocks with their LBNs
-abbrev pub blocks_alone : List (ℕ × Block) → List Block
-blocks_alone seen = map (λ s. s.1) seen
 
 -- behind a lock, or what comes before it
 abbrev pub behind_lock : Events → Space → Granted → Need

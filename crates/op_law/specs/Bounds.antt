@@ -8,21 +8,22 @@ use Rattle.op_law.specs.declared.need.Plan.{Plan}
 use Rattle.op_law.specs.declared.seen.Seen.{Seen}
 use Rattle.op_law.specs.Needs.{IsNext}
 
--- the most locks that a command takes itself: a DELETE has the directory's, the file's, Q and V
+-- the most locks that a command takes itself: a DELETE has the directory's, those of the 16 headers of the file, Q and V
 abbrev pub most_locks : ℕ
-most_locks = 4
+most_locks = 19
 
 -- the most blocks that it looks at itself: a DELETE looks at two headers, the index-file bitmap, and four times at up to 16
--- blocks: of the directory, of the file, of the quota file, and of the storage bitmap
+-- blocks: of the directory, of the file, where it is a directory, or else of its other headers, of the quota file, and of the storage
+-- bitmap
 abbrev pub most_looks : ℕ
 most_looks = 70
 
 -- The most writes of its plan. A file has up to file_most clusters of 16 blocks, so a WRITE has up to one zero fewer, the block, and
--- the header. A CLOSE has the header, up to 16 blocks of the storage bitmap, that of the index file, and a quota block. Of the
--- others a RENAME has the most: an insertion and a removal, each of up to 33 writes.
+-- the header. A CLOSE has up to 16 headers, up to 16 blocks of the storage bitmap, that of the index file, and a quota block. A DELETE
+-- has these, the mark, and a removal of up to 33 writes; a RENAME an insertion and a removal, each of up to 33.
 abbrev pub most_writes : Cmd → ℕ
 most_writes (cmd.WriteBlock chan vbn text) = 16 * file_most + 1
-most_writes (cmd.CloseFile chan) = 30
+most_writes (cmd.CloseFile chan) = 40
 most_writes other = 120
 
 -- A command that has seen this is brief: it has not more locks, has not looked at more blocks, and its plan has not more writes.

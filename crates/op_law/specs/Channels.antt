@@ -24,6 +24,7 @@ use Rattle.op_law.specs.Refusing.{SeenFile, unless_refused, through_live, throug
 use Rattle.op_law.specs.Writing.{empty_handed, header_write, plan_of, asking_plan}
 use Rattle.op_law.specs.SeenFiles.{file_place, file_write}
 use Rattle.op_law.specs.Freeing.{through_space, freeing_writes}
+use Rattle.op_law.specs.Headers.{through_chain, through_part}
 
 -- an ask of a channel before all writes, with its reply where it is not granted
 abbrev pub first_ask : ℕ → ℕ → Mode → Ask
@@ -56,7 +57,7 @@ close_plan n chan other ws = asking_plan ws (close_ask n chan) (reply.Closed tru
 -- a file that is marked goes with the last of its opens
 abbrev pub close_in : Geometry → ℕ → Mode → SeenFile → Events
 close_in g chan mode f =
-    if f.file.marked then through_space g f (λ s. Make (close_plan f.num chan mode (freeing_writes g f s)))
+    if f.file.marked then through_chain g PW f (λ whole. through_space g whole (λ s. Make (close_plan whole.num chan mode (freeing_writes g whole s))))
     else answers (reply.Closed false)
 
 abbrev pub close_on : Geometry → Option Chan → ℕ → Events
@@ -83,7 +84,7 @@ read_in vbn f =
 
 abbrev pub read_on : Geometry → Option Chan → ℕ → Events
 read_on g None vbn = refuses refusal.NotOpen
-read_on g (Some p) vbn = through_open g p.file PR (refuses refusal.EndOfFile) (within g vbn (read_in vbn))
+read_on g (Some p) vbn = through_open g p.file PR (refuses refusal.EndOfFile) (within g vbn (λ f. through_part g PR vbn f (read_in vbn)))
 
 unfoldable pub read_events : Geometry → Option Chan → ℕ → Events
 read_events g channel vbn = read_on g channel vbn
@@ -98,15 +99,16 @@ written_header f vbn = with_sizes f.head (ended (marked_up f.file vbn) vbn)
 abbrev pub zero_writes : SeenFile → ℕ → List PlanWrite
 zero_writes f vbn = map (λ v. file_write f v zeros stage.Nothing) (range_with_len f.file.mark (vbn - f.file.mark))
 
-abbrev pub last_header : Geometry → SeenFile → ℕ → PlanWrite
-last_header g f vbn = header_write g f.num (written_header f vbn) stage.Done empty_handed
+-- the write of the first header with the mark and the end of the file
+abbrev pub sizes_write : Geometry → SeenFile → ℕ → PlanWrite
+sizes_write g f vbn = header_write g f.num (written_header f vbn) stage.Done empty_handed
 
 -- At or above a mark the block shows once the header is written. Below it, or where there is none, it shows at once, and the
 -- header follows where the end changes.
 unfoldable pub block_writes : Geometry → SeenFile → ℕ → Block → List PlanWrite
 block_writes g f vbn b =
-    if is_past_mark f.file vbn then zero_writes f vbn ++ file_write f vbn b stage.Nothing ∷ last_header g f vbn ∷ []
-    else if nat_le f.file.end vbn then file_write f vbn b stage.DataOnly ∷ last_header g f vbn ∷ []
+    if is_past_mark f.file vbn then zero_writes f vbn ++ file_write f vbn b stage.Nothing ∷ sizes_write g f vbn ∷ []
+    else if nat_le f.file.end vbn then file_write f vbn b stage.DataOnly ∷ sizes_write g f vbn ∷ []
     else file_write f vbn b stage.Done ∷ []
 
 abbrev pub write_in : Geometry → ℕ → List ℕ → SeenFile → Events
@@ -116,7 +118,7 @@ abbrev pub write_on : Geometry → Option Chan → ℕ → List ℕ → Events
 write_on g None vbn text = refuses refusal.NotOpen
 write_on g (Some p) vbn text =
     if is_reading p.mode then refuses refusal.NoPriv
-    else through_open g p.file PW (refuses refusal.EndOfFile) (within g vbn (write_in g vbn text))
+    else through_open g p.file PW (refuses refusal.EndOfFile) (within g vbn (λ f. through_part g PW vbn f (write_in g vbn text)))
 
 unfoldable pub write_events : Geometry → Option Chan → ℕ → List ℕ → Events
 write_events g channel vbn text = write_on g channel vbn text

@@ -66,7 +66,7 @@ unfoldable pub new_header : Geometry → Fid → ℕ → NewEntry → List ℕ �
 new_header g parent n e qs =
     with_runs (header_bytes (fields_for g n e.file) (text_of e.name e.ver) (parent.num, parent.seq)) (runs_for g qs)
 
--- the last sequence that a free slot tells
+-- the sequence that a slot has: of a free one that of its last use
 abbrev pub slot_seq : Result Slot HeaderFault → ℕ
 slot_seq (Ok (Free seq)) = seq
 slot_seq (Ok (Used h)) = h.seq

@@ -19,6 +19,7 @@ use Rattle.op_law.specs.Rows.{look_all}
 use Rattle.op_law.specs.Refusing.{SeenFile}
 use Rattle.op_law.specs.Writing.{holding, empty_handed, write_at, with_numbers, header_write}
 use Rattle.op_law.specs.SeenFiles.{file_clusters}
+use Rattle.op_law.specs.Headers.{numbers_of, slots_freed}
 use Rattle.op_law.specs.Quotas.{through_quota, owner_write, row_discharged}
 
 -- these clusters of the volume in rising order, each once
@@ -36,6 +37,11 @@ blocks_for g qs = filter (λ k. list_any (lies_in k) qs) (range_with_len 0 (stor
 -- looks at these blocks of the storage bitmap, and what comes next by them
 abbrev pub look_storage : Geometry → List ℕ → (List Block → Events) → Events
 look_storage g ks next = look_all V (map (λ k. place_of g (Storage k)) ks) next
+
+-- looks at the index-file bitmap where numbers become free, and what comes next by it
+abbrev pub look_index : Geometry → List ℕ → (Block → Events) → Events
+look_index g [] next = next []
+look_index g (n ∷ ns) next = Look V (place_of g IndexBitmap) next
 
 -- ---- writes
 
@@ -79,7 +85,8 @@ freeing_tail g s qs numbers storage index = storage_writes g s qs numbers (block
 abbrev pub all_clusters : Geometry → SeenFile → List ℕ
 all_clusters g f = rising g (file_clusters g f)
 
--- what a command looks at before a file goes: the quota blocks, the index-file bitmap, the storage blocks of its clusters
+-- what a command looks at before clusters and numbers become free: the quota blocks, the index-file bitmap, which is no matter where
+-- no number does, and the storage blocks of the clusters
 pub record SeenSpace : Type 0 where
   pub quota : List Block
   pub index : Block
@@ -90,10 +97,16 @@ abbrev pub through_space : Geometry → SeenFile → (SeenSpace → Events) → 
 through_space g f next = through_quota g PW (λ quota. Take V PW (Look V (place_of g IndexBitmap) (λ index.
     look_storage g (blocks_for g (all_clusters g f)) (λ storage. next (record { quota = quota; index = index; storage = storage })))))
 
--- The file goes: its header becomes a free slot, its clusters and its number become free, and its owner is charged no more.
+-- The slots of a file's headers become free, that of the first one first.
+unfoldable pub headers_freed : Geometry → SeenFile → List PlanWrite
+headers_freed g f =
+    let qs = all_clusters g f in
+    let ns = numbers_of g f in
+    with_numbers ns (header_write g f.num (freed f.file.seq) stage.Freed (holding qs None)) ∷ slots_freed g stage.Freed qs ns f.rest
+
+-- The file goes: the slots of its headers become free, then its clusters and its numbers, and its owner is charged no more.
 unfoldable pub freeing_writes : Geometry → SeenFile → SeenSpace → List PlanWrite
 freeing_writes g f s =
-    let qs = all_clusters g f in
-    with_numbers (f.num ∷ []) (header_write g f.num (freed f.file.seq) stage.Freed (holding qs None))
-    ∷ freeing_tail g stage.Freed qs (f.num ∷ []) s.storage s.index
-    ++ owner_write g s.quota f.file.owner (row_discharged (g.cluster * f.file.clusters + 1)) stage.Done empty_handed
+    headers_freed g f
+    ++ (freeing_tail g stage.Freed (all_clusters g f) (numbers_of g f) s.storage s.index
+    ++ owner_write g s.quota f.file.owner (row_discharged (g.cluster * f.file.clusters + 1)) stage.Done empty_handed)

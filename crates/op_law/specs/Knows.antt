@@ -1,6 +1,7 @@
 -- What a command takes for granted of the catalogue besides the blocks that it has seen.
-use Rattle.std.specs.Prelude.{◌==◌, ◌&&◌, ◌+◌, ◌-◌, ◌/◌, not, nat_lt, nat_le, ℕ, Bool, true, false, Option, Some, None, is_none, if◌then◌else◌}
+use Rattle.std.specs.Prelude.{◌==◌, ◌&&◌, ◌+◌, ◌-◌, ◌/◌, not, nat_lt, nat_le, ℕ, Bool, true, false, List, [], ◌∷◌, Option, Some, None, is_none, if◌then◌else◌}
 use Rattle.std.specs.List.{list_all}
+use Rattle.base_words.specs.Fields.{Block}
 use Rattle.plain_cat.specs.Modes.{rank}
 use Rattle.plain_cat.specs.declared.command.Cmd.{Cmd}
 use Rattle.plain_cat.specs.declared.command.Cmd.TheVariants as cmd
@@ -9,8 +10,12 @@ use Rattle.plain_cat.specs.declared.reply.Refusal.TheVariants as refusal
 use Rattle.plain_cat.specs.declared.cat.Cat.{Cat}
 use Rattle.plain_cat.specs.declared.cat.Open.{Open}
 use Rattle.plain_cat.specs.declared.cat.QuotaRow.{QuotaRow}
-use Rattle.plain_rules.specs.Lookups.{in_use, channel_at, free_clusters, has_free_number}
+use Rattle.plain_rules.specs.Lookups.{in_use, channel_at, free_clusters, has_free_number, needs_header}
 use Rattle.plain_rules.specs.Accounts.{charge}
+pub use Rattle.plain_rules.specs.Answers.{takes_space}
+use Rattle.vol_parts.specs.declared.geometry.Geometry.{Geometry}
+use Rattle.vol_spell.specs.Reading.{fields_told}
+use Rattle.vol_spell.specs.Spelling.{size_in}
 use Rattle.op_law.specs.declared.need.Ask.{Ask}
 use Rattle.op_law.specs.declared.seen.Seen.{Seen}
 use Rattle.op_law.specs.declared.seen.Chan.{Chan}
@@ -64,21 +69,24 @@ clusters_wanted factor (cmd.MkDir reg dir name owner) = 1
 clusters_wanted factor (cmd.Extend file blocks) = (blocks + (factor - 1)) / factor
 clusters_wanted factor other = 0
 
--- whether it searches for space at all
-abbrev pub takes_space : Cmd → Bool
-takes_space (cmd.Create reg dir name ver blocks owner) = true
-takes_space (cmd.MkDir reg dir name owner) = true
-takes_space (cmd.Extend file blocks) = true
-takes_space other = false
-
 -- the space that a command wants: so many clusters, and a number or none
 pub record Wanted : Type 0 where
   pub clusters : ℕ
   pub number : Bool
 
+-- whether the file whose first header is the first block seen needs one header more with so many clusters more
+abbrev pub wants_header : Geometry → ℕ → List (ℕ × Block) → Bool
+wants_header g more [] = false
+wants_header g more (b ∷ behind) = needs_header (size_in (fields_told b.1) / g.cluster) more
+
+-- A command wants a number for a new file, or for a new header of the file that it extends, by the blocks that the first header says.
+abbrev pub wants_number : Seen → Cmd → Bool
+wants_number seen (cmd.Extend file blocks) = wants_header seen.geometry (clusters_wanted seen.geometry.cluster (cmd.Extend file blocks)) seen.blocks
+wants_number seen other = makes_file other
+
 -- what it wants, by what it has seen
 abbrev pub wanted : Seen → Cmd → Wanted
-wanted seen x = record { clusters = clusters_wanted seen.geometry.cluster x; number = makes_file x }
+wanted seen x = record { clusters = clusters_wanted seen.geometry.cluster x; number = wants_number seen x }
 
 -- Space was refused for its reason: a number was wanted and none is free, or else the clusters that are free are too few.
 abbrev pub is_short : Cat → Wanted → Option Refusal → Bool
@@ -89,7 +97,7 @@ is_short c k (Some other) = false
 
 -- ---- a number that was given
 
--- a number for a new file is above those of the system files
+-- a number for a new file or a new header is above those of the system files
 abbrev pub is_new_number : Option ℕ → Bool
 is_new_number None = true
 is_new_number (Some n) = nat_lt 11 n

@@ -1,5 +1,5 @@
 -- The law of an operation.
-use Rattle.std.specs.Prelude.{◌≡◌, ◌⊎◌, ◌≤◌, ◌<◌, ◌-◌, ◌&&◌, not, nat_le, ℕ, Bool, true, false, List, [], ◌∷◌, Option, Some, None, length, map, filter, take, Ok}
+use Rattle.std.specs.Prelude.{◌≡◌, ◌⊎◌, ◌≤◌, ◌<◌, ◌-◌, ◌&&◌, not, nat_le, ℕ, Bool, true, false, List, [], ◌∷◌, Option, Some, None, length, map, filter, take, slice_get, Ok}
 use Rattle.base_words.specs.Fields.{Block}
 use Rattle.fx_header.specs.declared.slot.Hdr.{Hdr}
 use Rattle.fx_header.specs.declared.slot.Slot.TheVariants.{Free}
@@ -23,7 +23,7 @@ use Rattle.vol_parts.specs.declared.geometry.Part.{Part}
 use Rattle.vol_parts.specs.declared.geometry.Part.TheVariants.{Header}
 use Rattle.vol_parts.specs.Parts.{part_of}
 use Rattle.vol_spell.specs.Reading.{owner_at, header_block, fields_told, runs_told}
-use Rattle.vol_spell.specs.Spelling.{Spells}
+use Rattle.vol_spell.specs.Spelling.{Spells, IsBlank}
 use Rattle.vol_under.specs.Guards.{Guard, Lock, Stock, guard_of, MayWrite, MayLook}
 use Rattle.vol_under.specs.UnderWay.{PlannedWrite, bare, outs_after, UnderWay}
 use Rattle.vol_under.specs.Under.{IsLawful}
@@ -72,27 +72,27 @@ under_way cmd seen writes known = record {
 
 -- ---- needs
 
--- the locks that a command takes itself: those of files, Q, and V where it takes no space, since else the search for space takes V
+-- the locks that a command takes itself: those of files and their headers, Q, and V where it takes no space, since else the search for space takes V
 abbrev pub takes_lock : Cmd → LockName → Bool
 takes_lock cmd (S n) = true
 takes_lock cmd Q = true
 takes_lock cmd V = not (takes_space cmd)
 takes_lock cmd other = false
 
--- V comes behind Q in PW; and the lock of a file before Q, but for that of the number that was given
+-- V comes behind Q in PW; and the locks of files and their headers before Q, but for that of the number that was given
 abbrev pub ComesInTurn : List (LockName × Mode) → Option ℕ → LockName → Type 0
 ComesInTurn locks number (S n) = (Has (map (λ l. l.0) locks) Q → ⊥) ⊎ (number ≡ Some n)
 ComesInTurn locks number V = Has (held_in PW locks) Q
 ComesInTurn locks number other = Unit {0}
 
 -- One of these, which is not held yet, in PR or PW, in its turn, where this number was given; and behind all that are held, in the
--- order of the names.
-pub record IsNewLock (cmd : Cmd) (c : Cat) (locks : List (LockName × Mode)) (number : Option ℕ) (name : LockName) (mode : Mode) : Type 0 where
+-- order of the names on these blocks, which have these owners and spell c.
+pub record IsNewLock (cmd : Cmd) (g : Geometry) (bs : List Block) (owners : Owners) (c : Cat) (locks : List (LockName × Mode)) (number : Option ℕ) (name : LockName) (mode : Mode) : Type 0 where
   pub new : Has (map (λ l. l.0) locks) name → ⊥
   pub in_mode : Has (PR ∷ PW ∷ []) mode
   pub own : takes_lock cmd name ≡ true
   pub turn : ComesInTurn locks number name
-  pub after : (held : LockName) → Has (map (λ l. l.0) locks) held → IsBefore c held name
+  pub after : (held : LockName) → Has (map (λ l. l.0) locks) held → IsBefore g bs owners c held name
 
 -- A block that may be cached: it is a fixed part of the volume, or lies in a cluster of a directory. Blocks of other files are no
 -- such blocks.
@@ -123,7 +123,7 @@ pub record IsSearch (cmd : Cmd) (locks : List (LockName × Mode)) (k : Wanted) (
 -- What a command may need on blocks that spell a catalogue and have what it has seen: a new lock, a look under a lock that it holds, and once a search
 -- for space.
 abbrev pub MayNeed : Cmd → Seen → List Block → Owners → Cat → Need → Type 0
-MayNeed cmd seen bs own c (need.Lock name mode) = IsNewLock cmd c seen.locks seen.number name mode
+MayNeed cmd seen bs own c (need.Lock name mode) = IsNewLock cmd seen.geometry bs own c seen.locks seen.number name mode
 MayNeed cmd seen bs own c (need.Block name lbn) = IsLockedLook seen.geometry bs own c seen.locks name lbn
 MayNeed cmd seen bs own c (need.Bare lbn) = IsGuardedLook seen.geometry bs own seen.locks lbn
 MayNeed cmd seen bs own c (need.Space clusters number) = IsSearch cmd seen.locks (wanted seen cmd) clusters number × HasNoSpace (space_of seen)
@@ -148,7 +148,7 @@ OnItsBlocks node u g P = (base : List Block) (own : Owners) (c : Cat) (stock : T
 abbrev pub AreGuarded : ℕ → UnderWay → Geometry → Type 0
 AreGuarded node u g = OnItsBlocks node u g (λ base own. (l : ℕ) → Touches (bare u.plan) l → MayWrite node u.write (guard_of g own l))
 
--- The most file numbers that a write of a plan leaves outside. The writes of today's commands leave one at most.
+-- The most file numbers that a write of a plan leaves outside: those of all headers of a file.
 abbrev pub most_outside : ℕ
 most_outside = 16
 
@@ -165,8 +165,8 @@ abbrev pub is_dir_told : Option Hdr → Bool
 is_dir_told None = false
 is_dir_told (Some h) = h.dir
 
--- A new header leaves the runs of a directory that the old one tells: it is a free slot, or the old one tells no directory, or it
--- tells a directory of the same runs.
+-- A block written to a header slot leaves the runs of a directory that the old one tells: it is a free slot, or the old one tells no
+-- directory, or it tells a directory of the same runs.
 pub data KeepsRuns (old new : Block) : Type 0 where
   Freed : (last : ℕ) → header_read new ≡ Ok (Free last) → KeepsRuns old new
   NoDir : is_dir_told (fields_told old) ≡ false → KeepsRuns old new
@@ -176,10 +176,21 @@ pub data KeepsRuns (old new : Block) : Type 0 where
 abbrev pub LeavesDirs : Geometry → List Block → List PlanWrite → Type 0
 LeavesDirs g base ws = (w : PlanWrite) → Has ws w → (i : ℕ) → part_of g w.lbn ≡ Some (Header i) → KeepsRuns (header_block g base i) w.block
 
+-- The slot of a number may get this block: the block leaves it free, or the number is a file's, or the number was given to the command.
+pub data MayFill (own : Owners) (took : Things) (i : ℕ) (b : Block) : Type 0 where
+  Empty : IsBlank b → MayFill own took i b
+  OfFile : (n : ℕ) → slice_get own.numbers (i - 1) ≡ Some (InFile n) → MayFill own took i b
+  Given : Has took.numbers (i - 1) → MayFill own took i b
+
+-- so it is with each of these writes that is to a header
+abbrev pub LeavesSlots : Geometry → Owners → Things → List PlanWrite → Type 0
+LeavesSlots g own took ws = (w : PlanWrite) → Has ws w → (i : ℕ) → part_of g w.lbn ≡ Some (Header i) → MayFill own took i w.block
+
 -- These writes, which are the node's plan, and this reply are right: each write is guarded, by the lock that it names, each
 -- number of the writes leaves a stage of the command, the reply goes with all of them, and after them the command has nothing
 -- outside, nor before that anything but what it was given, where it does not hold V in PW, and never many file numbers. A header
--- that is written leaves a directory's runs, unless its slot becomes free.
+-- that is written leaves a directory's runs, unless its slot becomes free; and it stands in the slot of a number that is a file's or was
+-- given to the command, unless it leaves the slot free.
 pub record IsRight (node : ℕ) (cmd : Cmd) (g : Geometry) (ws : List PlanWrite) (u : UnderWay) (r : Reply) : Type 0 where
   pub named : OnItsBlocks node u g (λ base own. AreNamed node u.write g own ws)
   pub guarded : AreGuarded node u g
@@ -187,6 +198,7 @@ pub record IsRight (node : ℕ) (cmd : Cmd) (g : Geometry) (ws : List PlanWrite)
   pub reply : IsReply g node u cmd r
   pub left : outs_after u.took u.plan ≡ nothing
   pub dirs : OnItsBlocks node u g (λ base own. LeavesDirs g base ws)
+  pub slots : OnItsBlocks node u g (λ base own. LeavesSlots g own u.took ws)
   pub kept_out : OnItsBlocks node u g (λ base own. KeepsOut u.took u.write ws)
 
 -- a refusal writes nothing
@@ -213,7 +225,7 @@ IsPlan node cmd seen p (Some a) =
 
 -- The law of a command: it searches for space at most once; what it needs next, whatever it has seen, it may need on all blocks
 -- that have that; its plan is right at each node; and it is brief on blocks that have what it has seen, where a directory has one
--- cluster and a file no more than a header lists.
+-- cluster and a file no more than 16 headers list.
 pub record Lawful (cmd : Cmd) : Type 0 where
   pub searches : (g : Geometry) (channel : Option Chan) → SearchesOnce (events_of g channel cmd)
   pub needs : (node : ℕ) (seen : Seen) (bs : List Block) (own : Owners) (c : Cat) (next : Need) → HasSeen cmd seen → IsSeenOn node cmd seen bs own c → IsNext cmd seen next → MayNeed cmd seen bs own c next

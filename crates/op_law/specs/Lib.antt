@@ -17,6 +17,7 @@ pub mod Knows
 pub mod Fits
 pub mod Bounds
 pub mod Going
+pub mod Headers
 pub mod Looking
 pub mod Order
 pub mod Laws

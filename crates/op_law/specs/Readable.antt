@@ -31,12 +31,13 @@ EndsInside r = r.lbn + r.count ≤ 65536
 abbrev pub ListsInside : Block → Type 0
 ListsInside b = All EndsInside (runs_in b)
 
--- Where a block is the first header of a file, it lists as many blocks as the file has, and the runs of these do. What it lists behind
--- them may lie anywhere; that of a directory lists nothing else.
+-- Where a block is the first header of a file, the file has at most 65,536 blocks, and the runs of those that the header lists do.
+-- What it lists behind them may lie anywhere; that of a directory lists all blocks of the directory, and nothing else.
 pub record AreInside (b : Block) : Type 0 where
   pub runs : All EndsInside (runs_told b)
-  pub enough : (h : Hdr) → fields_told b ≡ Some h → h.blocks ≤ blocks_in (runs_in b)
+  pub few : (h : Hdr) → fields_told b ≡ Some h → h.blocks ≤ 65536
   pub dir : (h : Hdr) → fields_told b ≡ Some h → h.dir ≡ true → runs_told b ≡ runs_in b
+  pub enough : (h : Hdr) → fields_told b ≡ Some h → h.dir ≡ true → h.blocks ≤ blocks_in (runs_in b)
 
 -- so it is with the header that was seen first
 abbrev pub HeadIsInside : List (ℕ × Block) → Type 0

@@ -66,10 +66,10 @@ if_entry (Some e) next = if nat_le e.fid.num 11 then refuses refusal.NoPriv else
 
 -- ---- space
 
--- what comes next with the clusters that were searched for
-abbrev pub if_clusters : (List ℕ → Events) → List ℕ → Option ℕ → Option Refusal → Events
-if_clusters next given number None = next given
-if_clusters next given number (Some r) = refuses r
+-- what comes next with the clusters that were searched for, and the number, if one was
+abbrev pub if_given : (List ℕ → Option ℕ → Events) → List ℕ → Option ℕ → Option Refusal → Events
+if_given next given number None = next given number
+if_given next given number (Some r) = refuses r
 
 -- what comes next with the clusters and the number that were searched for
 abbrev pub if_space : (List ℕ → ℕ → Events) → List ℕ → Option ℕ → Option Refusal → Events

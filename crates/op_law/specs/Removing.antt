@@ -23,6 +23,7 @@ use Rattle.op_law.specs.Refusing.{SeenFile, seen_file, used_in, if_file, if_entr
 use Rattle.op_law.specs.Writing.{empty_handed, header_write, plan_of, asking_plan}
 use Rattle.op_law.specs.Moving.{SeenDir, entries_of, through_names, removal_writes}
 use Rattle.op_law.specs.Freeing.{SeenSpace, through_space, freeing_writes}
+use Rattle.op_law.specs.Headers.{through_chain}
 
 -- ---- looks
 
@@ -70,8 +71,8 @@ entry_removed d e = Make (plan_of (removal_writes d e stage.Nothing stage.Done) 
 -- ---- DELETE
 
 abbrev pub delete_in : Geometry → SeenDir → DirEnt → Events
-delete_in g d e = through_named g d.fid.num e.fid (entry_removed d e) (λ f.
-    if_empty f (through_space g f (λ s. Make (delete_plan g d e f s))))
+delete_in g d e = through_named g d.fid.num e.fid (entry_removed d e) (λ first.
+    through_chain g PW first (λ f. if_empty f (through_space g f (λ s. Make (delete_plan g d e f s)))))
 
 unfoldable pub delete_events : Geometry → Fid → List ℕ → ℕ → Events
 delete_events g dir name ver = through_names g dir (λ d. if_entry (entry_of (versions name (entries_of d)) ver) (delete_in g d))

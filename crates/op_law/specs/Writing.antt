@@ -32,7 +32,7 @@ write_at name lbn b s out = record { lock = name; lbn = lbn; block = b; stage = 
 abbrev pub with_numbers : List ℕ → PlanWrite → PlanWrite
 with_numbers ns w = record w { numbers = ns }
 
--- the write of the header of file n
+-- the write of the header in the slot of number n
 abbrev pub header_write : Geometry → ℕ → Block → Stage → Held → PlanWrite
 header_write g n b s out = write_at (S n) (header_place g n) b s out
 

@@ -124,18 +124,18 @@ obeys other look g channel seen bs own c s = absurd look
 
 -- ---- they are brief
 
-facts_brief : (bs : List Block) (space : Space) (o : Option Hdr) → BriefBy bs space 120 (facts_or_none o) 3 69
+facts_brief : (bs : List Block) (space : Space) (o : Option Hdr) → BriefBy bs space 120 (facts_or_none o) 18 69
 facts_brief bs space None = omega arith
 facts_brief bs space (Some h) = omega arith
 
 brief : (x : Cmd) → IsLook x → Briefs x
 unfolding events_of lookup_events list_events stat_events
 brief (cmd.Lookup reg dir name ver) look node seen bs own c on =
-    directory_brief bs (space_of seen) 120 seen.geometry own c on.spelt dir PR 4 70 (omega arith) _ (omega arith) (λ blocks few. omega arith)
+    directory_brief bs (space_of seen) 120 seen.geometry own c on.spelt dir PR 19 70 (omega arith) _ (omega arith) (λ blocks few. omega arith)
 brief (cmd.List dir) look node seen bs own c on =
-    directory_brief bs (space_of seen) 120 seen.geometry own c on.spelt dir PR 4 70 (omega arith) _ (omega arith) (λ blocks few. omega arith)
+    directory_brief bs (space_of seen) 120 seen.geometry own c on.spelt dir PR 19 70 (omega arith) _ (omega arith) (λ blocks few. omega arith)
 brief (cmd.Stat file) look node seen bs own c on =
-    header_brief bs (space_of seen) 120 seen.geometry own c on.spelt file PR 4 70 (omega arith) _ (omega arith) (λ is. facts_brief bs (space_of seen) _)
+    header_brief bs (space_of seen) 120 seen.geometry own c on.spelt file PR 19 70 (omega arith) _ (omega arith) (λ is. facts_brief bs (space_of seen) _)
 brief other look node seen bs own c on = absurd look
 
 pub look_lawful : (x : Cmd) → IsLook x → Lawful x

@@ -49,7 +49,7 @@ use Rattle.op_law.proofs.Walking.{EveryPlan, ObeysBy}
 use Rattle.op_law.proofs.Through.{all_so, quota_obeys}
 use Rattle.op_law.proofs.Brief.{BriefBy, Briefs}
 use Rattle.op_law.proofs.Counting.{quota_brief}
-use Rattle.op_law.proofs.Naming.{no_header_leaves, TouchesNoHeader}
+use Rattle.op_law.proofs.Naming.{no_header_leaves, no_header_fills, TouchesNoHeader}
 use Rattle.op_law.proofs.Ends.{EndsBy, nothing_given}
 use Rattle.op_law.proofs.Doing.{IsShaped, busy, IsDone, refusal_done}
 use Rattle.op_steps.specs.Chained.{Chain, StepsOf, StandsOn}
@@ -98,14 +98,14 @@ module _ (owner : Uic) (quota over : ℕ) where
 
   -- ---- one lock, up to 16 blocks, and at most one write
 
-  is_brief : (bs : List Block) (space : Space) (g : Geometry) (qs : List Block) (own free : Option ℕ) → BriefBy bs space 120 (quota_set_in g qs owner quota over own free) 3 54
+  is_brief : (bs : List Block) (space : Space) (g : Geometry) (qs : List Block) (own free : Option ℕ) → BriefBy bs space 120 (quota_set_in g qs owner quota over own free) 18 54
   is_brief bs space g qs (Some j) free = omega arith
   is_brief bs space g qs None (Some j) = omega arith
   is_brief bs space g qs None None = omega arith
 
   brief : Briefs x
   unfolding events_of quota_set_events
-  brief node seen bs own c on = quota_brief bs (space_of seen) 120 seen.geometry own c on.spelt PW _ 4 70 (omega arith) (omega arith)
+  brief node seen bs own c on = quota_brief bs (space_of seen) 120 seen.geometry own c on.spelt PW _ 19 70 (omega arith) (omega arith)
       (λ qs few. is_brief bs (space_of seen) seen.geometry qs (row_place (is_row_of owner) qs) (row_place (λ r. is_none r) qs))
 
   -- ---- the answer
@@ -204,10 +204,14 @@ module _ (owner : Uic) (quota over : ℕ) where
             (row_steps end k owner (row_allowed quota over) allow stage.Done empty_handed [] c bs own on (record { owner = λ r. refl; same = λ r. refl }) ranged (stands c node set_cat set_so)
             (λ last stays. finish set_cat set_so refl set_write refl refl _ last))
 
+        set_no_header : TouchesNoHeader g set_writes
+        set_no_header = subst (λ ws. TouchesNoHeader g ws) writes_are (row_no_header g bs bs own c owner (row_allowed quota over) stage.Done empty_handed s)
+
         set_done : Done (plan_of set_writes reply.QuotaKept)
         set_done = record {
           named = subst (λ ws. AreNamed node (Q ∷ []) g own ws) writes_are (row_guards g bs bs own c owner (row_allowed quota over) stage.Done empty_handed node (Q ∷ []) s (inl refl));
-          dirs = no_header_leaves g bs set_writes (subst (λ ws. TouchesNoHeader g ws) writes_are (row_no_header g bs bs own c owner (row_allowed quota over) stage.Done empty_handed s));
+          dirs = no_header_leaves g bs set_writes set_no_header;
+          slots = no_header_fills g own (things seen.clusters seen.number) set_writes set_no_header;
           kept_out = kept set_write refl;
           steps = set_steps;
         }
@@ -240,10 +244,14 @@ module _ (owner : Uic) (quota over : ℕ) where
         new_steps = new_row_steps new_end k j new stage.Done empty_handed [] c bs own on free untold (record { uic = owner_low; usage = omega arith; quota = quota_low; over = over_low }) (stands c node new_cat new_so)
             (λ last stays. finish new_cat new_so refl new_write refl refl _ last)
 
+        new_writes_no_header : TouchesNoHeader g new_writes
+        new_writes_no_header = new_row_no_header g bs bs own c j new stage.Done empty_handed s free
+
         new_done : Done (plan_of new_writes reply.QuotaKept)
         new_done = record {
           named = new_row_guards g bs bs own c j new stage.Done empty_handed node (Q ∷ []) s free (inl refl);
-          dirs = no_header_leaves g bs new_writes (new_row_no_header g bs bs own c j new stage.Done empty_handed s free);
+          dirs = no_header_leaves g bs new_writes new_writes_no_header;
+          slots = no_header_fills g own (things seen.clusters seen.number) new_writes new_writes_no_header;
           kept_out = kept new_write refl;
           steps = new_steps;
         }

@@ -76,13 +76,13 @@ module _ (owner : Uic) where
 
   -- ---- one lock, and up to 16 blocks
 
-  is_brief : (bs : List Block) (space : Space) (o : Option QuotaRow) → BriefBy bs space 120 (usage_or_none o) 3 54
+  is_brief : (bs : List Block) (space : Space) (o : Option QuotaRow) → BriefBy bs space 120 (usage_or_none o) 18 54
   is_brief bs space None = omega arith
   is_brief bs space (Some r) = omega arith
 
   brief : Briefs x
   unfolding events_of quota_show_events
-  brief node seen bs own c on = quota_brief bs (space_of seen) 120 seen.geometry own c on.spelt PR _ 4 70 (omega arith) (omega arith) (λ qs few. is_brief bs (space_of seen) (row_of owner (rows_seen qs)))
+  brief node seen bs own c on = quota_brief bs (space_of seen) 120 seen.geometry own c on.spelt PR _ 19 70 (omega arith) (omega arith) (λ qs few. is_brief bs (space_of seen) (row_of owner (rows_seen qs)))
 
   pub show_lawful : Lawful x
   show_lawful = only_looks_lawful x (record { searches = searches; plain = plain; obeys = obeys; brief = brief })

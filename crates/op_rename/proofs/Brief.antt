@@ -47,23 +47,23 @@ module _ (name : List ℕ) (ver : ℕ) (to : List ℕ) (to_ver : ℕ) (g : Geome
   abbrev Within : Events → ℕ → ℕ → Type 0
   Within es locks looks = BriefBy bs space 120 es locks looks
 
-  in_brief : (d : SeenDir) → length d.blocks ≤ 16 → Within (rename_in g name ver to to_ver d) 3 53
+  in_brief : (d : SeenDir) → length d.blocks ≤ 16 → Within (rename_in g name ver to to_ver d) 18 53
   in_brief d few = by_entry (entry_of (versions name (entries_of d)) ver) where
     judged : DirEnt → Events
     judged e = unless_refused (first_refusal (rename_refusals g (entries_of d) to to_ver)) (renamed_as d e to (new_version to_ver (versions to (entries_of d))))
 
-    by_file : (e : DirEnt) (t : Bool) → Within (cond t (refuses refusal.NoPriv) (judged e)) 3 53
+    by_file : (e : DirEnt) (t : Bool) → Within (cond t (refuses refusal.NoPriv) (judged e)) 18 53
     by_file e true = omega arith
     by_file e false =
-        unless_brief bs space 120 (first_refusal (rename_refusals g (entries_of d) to to_ver)) (renamed_as d e to (new_version to_ver (versions to (entries_of d)))) 3 53
+        unless_brief bs space 120 (first_refusal (rename_refusals g (entries_of d) to to_ver)) (renamed_as d e to (new_version to_ver (versions to (entries_of d)))) 18 53
         (λ order. rename_few d e (entry to (new_version to_ver (versions to (entries_of d))) e.fid) few)
 
-    by_entry : (o : Option DirEnt) → Within (if_entry o judged) 3 53
+    by_entry : (o : Option DirEnt) → Within (if_entry o judged) 18 53
     by_entry None = omega arith
     by_entry (Some e) = by_file e (nat_le e.fid.num 11)
 
-  names_brief : (own : Owners) (c : Cat) → Spells g bs own c → (dir : Fid) → Within (through_names g dir (rename_in g name ver to to_ver)) 4 70
-  names_brief own c s dir = directory_brief bs space 120 g own c s dir PW 4 70 (omega arith) _ (omega arith)
+  names_brief : (own : Owners) (c : Cat) → Spells g bs own c → (dir : Fid) → Within (through_names g dir (rename_in g name ver to to_ver)) 19 70
+  names_brief own c s dir = directory_brief bs space 120 g own c s dir PW 19 70 (omega arith) _ (omega arith)
       (λ blocks few. in_brief (record { fid = dir; head = header_block g bs dir.num; blocks = blocks }) few)
 
 pub rename_brief : (dir : Fid) (name : List ℕ) (ver : ℕ) (to : List ℕ) (to_ver : ℕ) → Briefs (cmd.Rename dir name ver to to_ver)

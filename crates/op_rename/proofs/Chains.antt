@@ -41,11 +41,11 @@ use Rattle.vol_under.specs.Chains.{End, Steps}
 use Rattle.vol_under.specs.UnderWay.{PlannedWrite, bare, StandsAt, stage_after, outs_after}
 use Rattle.vol_under.proofs.Steps.{stands_first}
 use Rattle.op_law.specs.declared.need.PlanWrite.{PlanWrite}
-use Rattle.op_law.specs.Laws.{planned, AreNamed, LeavesDirs}
+use Rattle.op_law.specs.Laws.{planned, AreNamed, LeavesDirs, LeavesSlots}
 use Rattle.op_law.specs.Writing.{empty_handed}
 use Rattle.op_law.specs.Moving.{SeenDir, is_full, insertion_writes, removal_writes, with_new, rename_refusals, rename_writes}
 use Rattle.op_law.proofs.Through.{file_told, IsListed}
-use Rattle.op_law.proofs.Naming.{both_named, both_leave, no_header_leaves}
+use Rattle.op_law.proofs.Naming.{both_named, TouchesNoHeader, both_leave, no_header_leaves, both_fill, no_header_fills}
 use Rattle.op_law.proofs.Refusals.{passed}
 use Rattle.op_law.proofs.Ends.{outs_behind, stage_behind}
 use Rattle.op_law.proofs.RemovalEnds.{removal_outs, removal_stage}
@@ -250,14 +250,20 @@ module _ (node : ℕ) (g : Geometry) (bs : List Block) (own : Owners) (c : Cat) 
         (subst (λ y. AreNamed node k.locks g own (removal_writes y e stage.Both stage.Done)) shows_both
         (removal_guards g dir d_both e stage.Both stage.Done both next own node k.locks spelt_both can_remove (inl refl)))
 
-    -- none is a header
+    -- none is to a header
+    entry_none : TouchesNoHeader g entry_part
+    entry_none = entry_no_header g dir d new stage.Nothing stage.Both c bs own s can_enter
+
+    removal_none : TouchesNoHeader g removal_part
+    removal_none = subst (λ y. TouchesNoHeader g (removal_writes y e stage.Both stage.Done)) shows_both (removal_no_header g dir d_both e stage.Both stage.Done both next own spelt_both can_remove)
+
     pub renaming_leaves : LeavesDirs g bs (rename_writes dd e new)
     unfolding rename_writes
-    renaming_leaves =
-        both_leave g bs entry_part removal_part
-        (no_header_leaves g bs entry_part (entry_no_header g dir d new stage.Nothing stage.Both c bs own s can_enter))
-        (subst (λ y. LeavesDirs g bs (removal_writes y e stage.Both stage.Done)) shows_both
-        (no_header_leaves g bs (removal_writes (dir_in g next dir) e stage.Both stage.Done) (removal_no_header g dir d_both e stage.Both stage.Done both next own spelt_both can_remove)))
+    renaming_leaves = both_leave g bs entry_part removal_part (no_header_leaves g bs entry_part entry_none) (no_header_leaves g bs removal_part removal_none)
+
+    pub renaming_fills : (took : Things) → LeavesSlots g own took (rename_writes dd e new)
+    unfolding rename_writes
+    renaming_fills took = both_fill g own took entry_part removal_part (no_header_fills g own took entry_part entry_none) (no_header_fills g own took removal_part removal_none)
 
     -- ---- what they end with
 

@@ -46,7 +46,7 @@ use Rattle.op_steps.specs.EntryWrites.{dir_in}
 use Rattle.op_rename.specs.Kinds.{IsRename, rename_in}
 use Rattle.op_rename.proofs.Brief.{rename_events_are, rename_brief}
 use Rattle.op_rename.proofs.Outcomes.{after_for, refuses_none, refuses_plain, refuses_missing, refuses_kept, refuses_shown, renames_answer, stands_done}
-use Rattle.op_rename.proofs.Chains.{renaming_steps, renaming_named, renaming_leaves, renaming_outs, renaming_stage_is}
+use Rattle.op_rename.proofs.Chains.{renaming_steps, renaming_named, renaming_leaves, renaming_fills, renaming_outs, renaming_stage_is}
 
 -- after each write of a RENAME nothing is outside
 rename_leaves_nothing : (d : SeenDir) (e new : DirEnt) → LeaveNothing (rename_writes d e new)
@@ -156,6 +156,7 @@ module _ (dir : Fid) (name : List ℕ) (ver : ℕ) (to : List ℕ) (to_ver : ℕ
           renamed_done = record {
             named = renaming_named node g bs own c s stock outs dir name ver to to_ver is f listed e found free order;
             dirs = renaming_leaves node g bs own c s stock outs dir name ver to to_ver is f listed e found free order;
+            slots = renaming_fills node g bs own c s stock outs dir name ver to to_ver is f listed e found free order (things seen.clusters seen.number);
             kept_out = nothing_kept (things seen.clusters seen.number) (held_in PW locks) p.writes (rename_leaves_nothing dd e (entry to (new_version to_ver (versions to d.entries)) e.fid));
             steps = renaming_steps node g bs own c s stock outs dir name ver to to_ver is f listed e found free order (Replied g node (busy x node seen p) x p.reply c stock) finish;
           }

@@ -1,6 +1,6 @@
 -- The runs of a file's clusters, one for each, and what is read of them where those that touch are merged.
-use Rattle.std.proofs.Common.{◌≡◌, ◌<◌, ◌≤◌, ◌+◌, ◌*◌, ◌-◌, ◌/◌, ◌%◌, ◌^◌, ◌++◌, ◌&&◌, ℕ, zero, suc, Bool, true, false, List, [], ◌∷◌, length, refl, sym, ap, ◌∙◌, inl, inr, arith, cond, nat_lt, append_assoc, length-append}
-use Rattle.std.specs.Prelude.{◌==◌, flat_map}
+use Rattle.std.proofs.Common.{◌≡◌, ◌<◌, ◌≤◌, ◌+◌, ◌*◌, ◌-◌, ◌/◌, ◌%◌, ◌^◌, ◌++◌, ◌&&◌, ℕ, zero, suc, Bool, true, false, List, [], ◌∷◌, length, refl, sym, ap, ◌∙◌, inl, inr, arith, cond, nat_lt, length-append}
+use Rattle.std.specs.Prelude.{flat_map}
 use Rattle.std.specs.List.{range_with_len}
 use Rattle.std.proofs.Math.Nat.{mul-mod_left, mul-div_cancel, mul-le-mul_left, div-mul-le_self}
 use Rattle.std.proofs.lemmas.Bool.Decides.{nat_tests}
@@ -8,7 +8,7 @@ use Rattle.std.proofs.lemmas.List.Elements.{All-nil, All-cons, All-head, All-tai
 use Rattle.std.proofs.lemmas.List.FromFn.{length-range_with_len}
 use Rattle.std.proofs.lemmas.List.Sums.{sum_by-cons}
 use Rattle.fx_header.specs.declared.run.Run.{Run}
-use Rattle.fx_header.specs.Pointers.{IsRun, AreRuns, joined, merged, word, long, first_word, pointer_bytes, map_words, blocks_in, lbns_in}
+use Rattle.fx_header.specs.Pointers.{IsRun, AreRuns, merged, word, long, first_word, pointer_bytes, map_words, blocks_in, lbns_in}
 use Rattle.fx_header.proofs.SpellLemmas.{AreRuns-merged, lbns_in-merged}
 use Rattle.base_words.specs.Lists.{Has}
 use Rattle.vol_spell.specs.Spread.{spread}
@@ -17,65 +17,11 @@ use Rattle.vol_spell.specs.Reading.{total_of, clusters_of}
 use Rattle.vol_spell.specs.Spelling.{IsWhole, AreWhole}
 use Rattle.op_law.specs.Writing.{runs_for}
 use Rattle.vol_spell.proofs.Runs.{whole}
+use Rattle.vol_spell.proofs.RunRows.{whole_joined, clusters_joined}
 
-range_joined : (a j k : ℕ) → range_with_len a (j + k) ≡ range_with_len a j ++ range_with_len (a + j) k
-range_joined a zero k = let e : 0 + k ≡ k = omega arith in let at : a + 0 ≡ a = omega arith in rw (e, at) refl
-range_joined a (suc j) k =
-    let e : suc j + k ≡ suc (j + k) = omega arith in
-    let at : a + suc j ≡ a + 1 + j = omega arith in
-    rw (e, at) (ap (λ xs. a ∷ xs) (range_joined (a + 1) j k))
-
-sum_whole : (x y f : ℕ) → 1 ≤ f → x % f ≡ 0 → y % f ≡ 0 → x + y ≡ (x / f + y / f) * f
-sum_whole x y f low a b =
-    let p : x ≡ x / f * f = whole x f low a in
-    let q : y ≡ y / f * f = whole y f low b in
-    let r : x / f * f + y / f * f ≡ (x / f + y / f) * f = omega arith in
-    omega arith
-
-sum_mod : (x y f : ℕ) → 1 ≤ f → x % f ≡ 0 → y % f ≡ 0 → (x + y) % f ≡ 0
-sum_mod x y f low a b = ap (λ z. z % f) (sum_whole x y f low a b) ∙ mul-mod_left (x / f + y / f) f
-
-sum_div : (x y f : ℕ) → 1 ≤ f → x % f ≡ 0 → y % f ≡ 0 → (x + y) / f ≡ x / f + y / f
-sum_div x y f low a b = ap (λ z. z / f) (sum_whole x y f low a b) ∙ mul-div_cancel (x / f + y / f) low
-
--- ---- runs that touch
+-- ---- a run for each cluster
 
 module _ (g : Geometry) (low : 1 ≤ g.cluster) where
-  whole_joined : (r : Run) (rs : List Run) → IsWhole g r → AreWhole g rs → AreWhole g (joined r rs)
-  whole_joined r [] h k = (h, tt)
-  whole_joined r (s ∷ rs) h k = by_test (r.lbn + r.count == s.lbn) refl where
-    one : Run
-    one = record { lbn = r.lbn; count = r.count + s.count }
-
-    by_test : (t : Bool) → (r.lbn + r.count == s.lbn) ≡ t → AreWhole g (cond t (one ∷ rs) (r ∷ s ∷ rs))
-    by_test false e = (h, k)
-    by_test true e =
-        let touch : r.lbn + r.count ≡ s.lbn = grind (arith, nat_tests) in
-        let inside = k.0.inside in
-        (record { begins = h.begins; ends = sum_mod r.count s.count g.cluster low h.ends k.0.ends; inside = omega arith }, k.1)
-
-  clusters_joined : (r : Run) (rs : List Run) → IsWhole g r → AreWhole g rs
-      → clusters_of g.cluster (joined r rs) ≡ range_with_len (r.lbn / g.cluster) (r.count / g.cluster) ++ clusters_of g.cluster rs
-  clusters_joined r [] h k = refl
-  clusters_joined r (s ∷ rs) h k = by_test (r.lbn + r.count == s.lbn) refl where
-    one : Run
-    one = record { lbn = r.lbn; count = r.count + s.count }
-
-    by_test : (t : Bool) → (r.lbn + r.count == s.lbn) ≡ t
-        → clusters_of g.cluster (cond t (one ∷ rs) (r ∷ s ∷ rs)) ≡ range_with_len (r.lbn / g.cluster) (r.count / g.cluster) ++ (range_with_len (s.lbn / g.cluster) (s.count / g.cluster) ++ clusters_of g.cluster rs)
-    by_test false e = refl
-    by_test true e =
-        let touch : r.lbn + r.count ≡ s.lbn = grind (arith, nat_tests) in
-        let next : r.lbn / g.cluster + r.count / g.cluster ≡ s.lbn / g.cluster = sym (sum_div r.lbn r.count g.cluster low h.begins h.ends) ∙ ap (λ z. z / g.cluster) touch in
-        let here : range_with_len (r.lbn / g.cluster) ((r.count + s.count) / g.cluster) ≡ range_with_len (r.lbn / g.cluster) (r.count / g.cluster) ++ range_with_len (s.lbn / g.cluster) (s.count / g.cluster) =
-        ap (λ z. range_with_len (r.lbn / g.cluster) z) (sum_div r.count s.count g.cluster low h.ends k.0.ends)
-        ∙ range_joined (r.lbn / g.cluster) (r.count / g.cluster) (s.count / g.cluster)
-        ∙ ap (λ z. range_with_len (r.lbn / g.cluster) (r.count / g.cluster) ++ range_with_len z (s.count / g.cluster)) next in
-        ap (λ xs. xs ++ clusters_of g.cluster rs) here
-        ∙ append_assoc (range_with_len (r.lbn / g.cluster) (r.count / g.cluster)) (range_with_len (s.lbn / g.cluster) (s.count / g.cluster)) (clusters_of g.cluster rs)
-
-  -- ---- a run for each cluster
-
   run_whole : (q : ℕ) → q < total_of g → IsWhole g (record { lbn = q * g.cluster; count = g.cluster })
   run_whole q lt =
       let one : 1 * g.cluster ≡ g.cluster = omega arith in
@@ -85,7 +31,7 @@ module _ (g : Geometry) (low : 1 ≤ g.cluster) where
   pub whole_for : (qs : List ℕ) → ((q : ℕ) → Has qs q → q < total_of g) → AreWhole g (merged (runs_for g qs))
   whole_for [] within = tt
   whole_for (q ∷ qs) within =
-      whole_joined (record { lbn = q * g.cluster; count = g.cluster }) (merged (runs_for g qs)) (run_whole q (within q (inl refl))) (whole_for qs (λ p t. within p (inr t)))
+      whole_joined g low (record { lbn = q * g.cluster; count = g.cluster }) (merged (runs_for g qs)) (run_whole q (within q (inl refl))) (whole_for qs (λ p t. within p (inr t)))
 
   pub clusters_for_runs : (qs : List ℕ) → ((q : ℕ) → Has qs q → q < total_of g) → clusters_of g.cluster (merged (runs_for g qs)) ≡ qs
   clusters_for_runs [] within = refl
@@ -93,7 +39,7 @@ module _ (g : Geometry) (low : 1 ≤ g.cluster) where
       let one : 1 * g.cluster ≡ g.cluster = omega arith in
       let first : q * g.cluster / g.cluster ≡ q = mul-div_cancel q low in
       let count : g.cluster / g.cluster ≡ 1 = ap (λ z. z / g.cluster) (sym one) ∙ mul-div_cancel 1 low in
-      clusters_joined (record { lbn = q * g.cluster; count = g.cluster }) (merged (runs_for g qs)) (run_whole q (within q (inl refl))) (whole_for qs (λ p t. within p (inr t)))
+      clusters_joined g low (record { lbn = q * g.cluster; count = g.cluster }) (merged (runs_for g qs)) (run_whole q (within q (inl refl))) (whole_for qs (λ p t. within p (inr t)))
       ∙ ap (λ z. range_with_len z (g.cluster / g.cluster) ++ clusters_of g.cluster (merged (runs_for g qs))) first
       ∙ ap (λ z. range_with_len q z ++ clusters_of g.cluster (merged (runs_for g qs))) count
       ∙ ap (λ xs. q ∷ xs) (clusters_for_runs qs (λ p t. within p (inr t)))

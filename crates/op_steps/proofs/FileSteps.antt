@@ -197,8 +197,6 @@ module _ (k : Chain) (parent : Fid) (n : ℕ) (e : NewEntry) (qs : List ℕ) (x 
         plain = plain;
         moves = t.moves;
         tells = subst (λ (z : Told). Tells k.geometry new n z (body_blocks mid_blocks n z) (slot.Used e.file)) (sym (alone_set k.geometry mid_blocks n block (fields_for k.geometry n e.file) len first enough)) told_then;
-        lost = λ i number mine gone. absurd (numberless k.geometry bs own x on.spelt (i - 1) n (λ e. let both : Some (Outside k.node) ≡ Some (InFile n) = sym number_out ∙ e in absurd (cc)) mine);
-        outside = λ m e. absurd (let both : Some (InFile n) ≡ Some (Outside m) = sym ((t.numbers (n - 1)).1 (inl (inl refl))) ∙ e in cc);
         reserved = λ old low at. let above = can.above in absurd (omega arith);
       }
 

@@ -1,4 +1,4 @@
--- The header of a file with more clusters, and the file that it tells.
+-- What the header of a file with more clusters tells.
 use Rattle.std.proofs.Common.{◌≡◌, ◌∙◌, ◌≤◌, ◌+◌, ◌-◌, ◌*◌, ◌/◌, ◌++◌, ℕ, Bool, true, false, List, length, take, refl, sym, ap, arith, cond}
 use Rattle.std.specs.Prelude.{◌==◌}
 use Rattle.std.proofs.Math.Nat.{mul-div_cancel_left}
@@ -6,35 +6,20 @@ use Rattle.std.proofs.lemmas.Bool.Decides.{nat_tests}
 use Rattle.std.proofs.lemmas.List.{take_at, take-append-le}
 use Rattle.base_words.specs.Fields.{Block}
 use Rattle.fx_header.specs.declared.slot.Hdr.{Hdr}
-use Rattle.fx_header.specs.Headers.{scattered}
-use Rattle.fx_header.proofs.SetterLemmas.{scattered-reads}
-use Rattle.vol_parts.proofs.WholeHeaders.{whole_scattered}
 use Rattle.vol_parts.specs.declared.geometry.Geometry.{Geometry}
 use Rattle.vol_parts.specs.Catalogues.{is_structure, file_of}
-use Rattle.vol_spell.proofs.Heads.{first_reads, first_segment, reads_first}
-use Rattle.vol_spell.proofs.HeadKept.{relisted}
-use Rattle.vol_spell.proofs.HeadRuns.{scattered_runs}
-use Rattle.vol_spell.proofs.HeadTold.{IsHeadWith}
-
--- ---- the header
-
--- that it is not said to be contiguous leaves the clusters
-pub scatter : (g : Geometry) (n : ℕ) (b : Block) (h : Hdr) (ds : List ℕ) → IsHeadWith g n b h ds → IsHeadWith g n (scattered b) h ds
-scatter g n b h ds at =
-    let read = first_reads b h at.reads in
-    relisted g n b (scattered b) h h ds (whole_scattered b at.whole)
-    (reads_first (scattered b) h (scattered-reads b h at.whole.long at.whole.bytes read) (first_segment b h at.reads))
-    refl refl (scattered_runs b h at.whole.long read) at
-
--- ---- what shows
+use Rattle.vol_spell.proofs.Shown.{shown_by}
 
 -- the mark of a file of so many blocks that gets more
 abbrev pub mark_for : ℕ → ℕ → ℕ
 mark_for blocks mark = cond (mark == 0) (blocks + 1) mark
 
--- the blocks that show by a mark
-abbrev pub shown_by : ℕ → List Block → List Block
-shown_by mark blocks = cond (mark == 0) blocks (take (mark - 1) blocks)
+-- it is at most one block behind them
+pub mark_low : (blocks mark : ℕ) → mark ≤ blocks + 1 → mark_for blocks mark ≤ blocks + 1
+mark_low blocks mark within = by_test (mark == 0) where
+  by_test : (t : Bool) → cond t (blocks + 1) mark ≤ blocks + 1
+  by_test true = omega arith
+  by_test false = within
 
 -- blocks behind the old ones do not show
 shown_grown : (mark blocks : ℕ) (old more : List Block) → length old ≡ blocks → mark ≤ blocks + 1 → shown_by (mark_for blocks mark) (old ++ more) ≡ shown_by mark old

@@ -1,178 +1,128 @@
--- The write of the header of a file with more clusters is a step.
-use Rattle.std.proofs.Common.{◌≡◌, ◌∙◌, ◌≤◌, ◌<◌, ◌+◌, ◌*◌, ◌++◌, ℕ, Bool, true, false, List, Some, None, length, refl, sym, ap, subst, inl, inr, arith, cond, length-append, slice_get}
-use Rattle.std.specs.Prelude.{◌==◌, ◌↔◌}
-use Rattle.std.proofs.Math.Nat.{mul-le-mul_right}
-use Rattle.std.proofs.lemmas.Option.{slice_get_within}
+-- The headers of a file that gets clusters are steps.
+use Rattle.std.proofs.Common.{◌≡◌, ◌≢◌, ◌∙◌, ◌++◌, ℕ, List, [], ◌∷◌, Option, Some, None, length, refl, sym, ap, subst, inl, inr, append_assoc}
 use Rattle.base_words.specs.Fields.{Block}
+use Rattle.base_words.specs.Lists.{Has}
+use Rattle.base_words.proofs.Listing.{has_first, has_second}
 use Rattle.fx_header.specs.declared.slot.Hdr.{Hdr}
-use Rattle.fx_header.specs.Headers.{with_runs}
+use Rattle.lock_db.specs.declared.name.LockName.TheVariants.{S}
 use Rattle.plain_cat.specs.declared.cat.Cat.{Cat}
 use Rattle.plain_cat.specs.declared.cat.File.{File}
-use Rattle.plain_cat.specs.declared.cat.Slot.TheVariants as slot
-use Rattle.plain_rules.specs.Lookups.{header_most}
-use Rattle.plain_rules.specs.Changes.{grown}
-use Rattle.vol_spell.specs.declared.owner.Owner.TheVariants.{InFile, Outside}
-use Rattle.base_words.specs.Lists.{Has, Once}
-use Rattle.vol_spell.specs.Owners.{Owners}
-use Rattle.vol_spell.specs.Spread.{blocks_at, spread}
-use Rattle.base_words.proofs.Listing.{has_parted, has_first, has_second, once_first, once_in_a_row}
-use Rattle.vol_spell.proofs.Placing.{spread_joined, blocks_joined}
+use Rattle.plain_cat.specs.declared.history.Stage.TheVariants as stage
+use Rattle.plain_rules.specs.Changes.{with_file, grown}
 use Rattle.vol_parts.specs.declared.geometry.Geometry.{Geometry}
-use Rattle.vol_parts.specs.Catalogues.{file_of}
-use Rattle.vol_spell.specs.Reading.{total_of, header_block, told_of, alone, clusters_told}
-use Rattle.vol_spell.specs.Spelling.{dir_found}
-use Rattle.vol_spell.specs.Kinds.{IsHeaderFor}
+use Rattle.vol_spell.specs.Owners.{Owners, nothing}
+use Rattle.vol_spell.specs.Reading.{header_place, header_block, headers_at}
 use Rattle.vol_under.specs.Chains.{End}
-use Rattle.vol_under.specs.Filing.{filed, Takes}
-use Rattle.vol_under.proofs.Files.{file_takes}
-use Rattle.op_law.specs.Fits.{things}
-use Rattle.op_law.specs.Sizes.{grown_header, grown_mark}
-use Rattle.op_law.specs.Writing.{holding, runs_for}
-use Rattle.vol_spell.specs.Files.{IsFileThere}
-use Rattle.op_law.proofs.SeenRuns.{seen_clusters}
-use Rattle.op_steps.specs.Chained.{Chain, StandsOn}
-use Rattle.op_steps.specs.Files.{file_in}
-use Rattle.op_steps.specs.GrownWrites.{grown_write, GrownSteps}
-use Rattle.op_steps.proofs.HeadSteps.{head_steps}
-use Rattle.vol_spell.proofs.HeadFiles.{head_whole, once, owned, within, number_is, sized, counted, length-shown, file_is, end_within, mark_within, not_structure}
-use Rattle.vol_spell.proofs.HeadTold.{IsHeadWith, IsFileWith, head_for}
-use Rattle.op_steps.proofs.Rerun.{with_clusters, rerun}
-use Rattle.op_steps.proofs.Grown.{mark_for, scatter, grown_told}
-use Rattle.vol_spell.proofs.HeadKept.{remark}
+use Rattle.op_law.specs.declared.need.PlanWrite.{PlanWrite}
+use Rattle.op_law.specs.Headers.{slot_at, numbers_of, last_header, grown_first, grown_last, new_header_writes, old_header_writes, headers_grown}
+use Rattle.op_law.specs.Refusing.{SeenFile}
+use Rattle.op_law.specs.Writing.{holding, header_write}
+use Rattle.op_steps.specs.Chained.{Chain, StepsOf, StageOf, StandsOn, after_writes}
+use Rattle.op_steps.specs.GrownWrites.{number_of, CanGrow, with_new, grown_numbers, GrownSteps}
+use Rattle.op_steps.specs.SlotWrites.{AreHeadsWritten}
+use Rattle.op_steps.proofs.ChainFiles.{heads}
+use Rattle.op_steps.proofs.GrownFacts.{seen, seen_is, IsReady, new_steps}
+use Rattle.op_steps.proofs.GrownFirst.{short}
+use Rattle.op_steps.proofs.GrownLast.{two_steps, one_step}
+use Rattle.op_steps.proofs.FileNow.{IsNow, now_has}
+use Rattle.op_steps.proofs.GrownOwners.{grown_owners}
+use Rattle.op_steps.proofs.LeadMoves.{lead_behind, lead_slot}
+use Rattle.op_steps.proofs.SlotSteps.{same_then, after_both}
+use Rattle.op_steps.proofs.WholeFiles.{placed, slots_placed, last_placed}
 
-module _ (k : Chain) (n : ℕ) (h : Hdr) (f : File) (qs : List ℕ) (x : Cat) (bs : List Block) (own : Owners) (on : StandsOn k (holding qs None) x bs own) (is : IsFileThere k.geometry x bs n h f)
-    (flat : f.dir ≡ false) (few : f.clusters + length qs ≤ header_most) where
-  abbrev g : Geometry
-  g = k.geometry
+-- what is none of these numbers and not the new one
+away : (ns : List ℕ) (o : Option (ℕ × ℕ)) (j : ℕ) → (Has (with_new ns o) j → ⊥) → (Has ns j → ⊥) × (Has (with_new [] o) j → ⊥)
+away ns None j none = (none, λ t. t)
+away ns (Some p) j none = ((λ t. none (has_first ns (p.0 ∷ []) j t)), (λ t. none (has_second ns (p.0 ∷ []) j t)))
 
-  abbrev b : Block
-  b = header_block k.geometry bs n
+-- what the whole of the writes leaves, for a file that is seen so
+abbrev Goes : End → (k : Chain) (n : ℕ) (f : File) (qs : List ℕ) (new : Option (ℕ × ℕ)) (ws : List PlanWrite) (x : Cat) (bs : List Block) (own : Owners) → SeenFile → Type 0
+Goes end k n f qs new ws x bs own s =
+    ((next : Owners) → AreHeadsWritten k (grown_numbers k.geometry s new) nothing (with_file x n (grown x f (length qs))) bs (after_writes (headers_grown k.geometry s qs new) bs) next → StepsOf end k ws (after_writes (headers_grown k.geometry s qs new) bs) next)
+    → StepsOf end k (headers_grown k.geometry s qs new ++ ws) bs own
 
-  abbrev cs : List ℕ
-  cs = clusters_told k.geometry (told_of k.geometry bs n)
+module _ (end : End) (k : Chain) (n : ℕ) (h : Hdr) (f : File) (qs : List ℕ) (new : Option (ℕ × ℕ)) (ws : List PlanWrite) (x : Cat) (bs : List Block) (own : Owners) (on : StandsOn k (holding qs (number_of new)) x bs own) (can : CanGrow k.geometry bs f qs new)
+    (lock : Has k.locks (S n)) (charged : StageOf k stage.Charged x) (done : StageOf k stage.Done (with_file x n (grown x f (length qs)))) where
+  -- the file of this number without others of these
+  none_of : (is : List ℕ) (s : SeenFile) (j : ℕ) → numbers_of k.geometry s ≡ n ∷ is → (Has (grown_numbers k.geometry s new) j → ⊥) → (Has (n ∷ is) j → ⊥) × (Has (with_new [] new) j → ⊥)
+  none_of is s j numbers none = away (n ∷ is) new j (subst (λ ns. Has (with_new ns new) j → ⊥) numbers none)
 
-  abbrev old : List Block
-  old = blocks_at bs (spread k.geometry.cluster (clusters_told k.geometry (told_of k.geometry bs n)))
+  abbrev X : Cat
+  X = with_file x n (grown x f (length qs))
 
-  abbrev new : Owners
-  new = filed n (things qs None) own
+  -- the writes of the old headers, on the blocks behind the new one
+  abbrev Behind : (s : SeenFile) (us : List PlanWrite) → Type 0
+  Behind s us =
+      ((next : Owners) → AreHeadsWritten k (grown_numbers k.geometry s new) nothing X bs (after_writes us (after_writes (new_header_writes k.geometry s qs new) bs)) next
+      → StepsOf end k ws (after_writes us (after_writes (new_header_writes k.geometry s qs new) bs)) next)
+      → StepsOf end k (us ++ ws) (after_writes (new_header_writes k.geometry s qs new) bs) own
 
-  takes : Takes k.node n own (filed n (things qs None) own) (things qs None) k.stock
-  takes = file_takes k.node n own (things qs None) k.stock on.outs
+  one_behind : (m : ℕ) (y : Hdr) (cs ds : List ℕ) (now : IsNow k.geometry own x n h f bs [] m y cs ds)
+      → (let s = seen k n h f qs new x bs own on [] m y cs ds now can.slot in IsReady k n h f qs new x bs own on [] m y cs ds now can.slot (after_writes (new_header_writes k.geometry s qs new) bs) → Behind s (old_header_writes k.geometry s qs new []))
+  one_behind m y cs ds now ready rest =
+      let s = seen k n h f qs new x bs own on [] m y cs ds now can.slot in
+      let bs1 = after_writes (new_header_writes k.geometry s qs new) bs in
+      one_step k n h f qs new x bs own on can m y cs ds now bs1 ready end ws lock done
+      (λ w. rest (grown_owners k n h f qs new x bs own on [] m y cs ds now can.slot) (record {
+        spelt = w.spelt;
+        outs = w.outs;
+        others = λ j number none.
+            let apart = none_of [] s j refl none in
+            same_then k.geometry bs bs1 _ j (ready.others j number apart.1) (w.others j number (λ e. apart.0 (inl (sym e))) (λ e. apart.0 (inl (sym e))));
+      }))
 
-  file : f ≡ file_of k.geometry.cluster n h old
-  file = file_is g bs own x n h on.spelt is.number is.reads f is.file
+  two_behind : (i : ℕ) (is : List ℕ) (m : ℕ) (y : Hdr) (cs ds : List ℕ) (now : IsNow k.geometry own x n h f bs (i ∷ is) m y cs ds)
+      → (let s = seen k n h f qs new x bs own on (i ∷ is) m y cs ds now can.slot in IsReady k n h f qs new x bs own on (i ∷ is) m y cs ds now can.slot (after_writes (new_header_writes k.geometry s qs new) bs)
+      → Behind s (old_header_writes k.geometry s qs new (placed k.geometry bs (i ∷ is))))
+  two_behind i is m y cs ds now ready =
+      let g : Geometry = k.geometry in
+      let s = seen k n h f qs new x bs own on (i ∷ is) m y cs ds now can.slot in
+      let bs1 = after_writes (new_header_writes g s qs new) bs in
+      let two : ℕ × Block → List PlanWrite =
+      λ l.
+      header_write g l.0 (grown_last g s l.1 qs new) stage.Charged (holding qs (number_of new)) ∷ header_write g n (grown_first g s.file (header_block g bs n) (length qs)) stage.Done (holding [] None) ∷ [] in
+      let at : last_header g (slot_at g (header_place g i)) (header_block g bs i) (placed g bs is) ≡ (m, header_block g bs m) =
+      last_placed g bs i is ∙ ap (λ j. (j, header_block g bs j)) (lead_slot g (headers_at g bs) n h (i ∷ is) m y cs now.are.lead) in
+      let has : Has (i ∷ is) m = lead_behind g (headers_at g bs) n h i is m y cs now.are.lead in
+      subst (λ l. Behind s (two l)) (sym at)
+      (λ rest.
+      two_steps k n h f qs new x bs own on can i is m y cs ds now bs1 ready end ws lock charged done
+      (λ first w. rest (grown_owners k n h f qs new x bs own on (i ∷ is) m y cs ds now can.slot) (record {
+        spelt = w.spelt;
+        outs = w.outs;
+        others = λ j number none.
+            let apart = none_of (i ∷ is) s j (ap (λ ns. n ∷ ns) (slots_placed g bs (i ∷ is))) none in
+            let not_n : j ≢ n = λ e. apart.0 (inl (sym e)) in
+            let not_m : j ≢ m = λ e. apart.0 (inr (subst (λ z. Has (i ∷ is) z) (sym e) has)) in
+            same_then g bs bs1 _ j (ready.others j number apart.1) (same_then g bs1 _ _ j (first.others j number not_n not_m) (w.others j number not_n not_n));
+      })))
 
-  dir : h.dir ≡ false
-  dir = ap (λ (y : File). y.dir) (sym file) ∙ flat
+  -- all of them
+  all_steps : (is : List ℕ) (m : ℕ) (y : Hdr) (cs ds : List ℕ) (now : IsNow k.geometry own x n h f bs is m y cs ds) → Goes end k n f qs new ws x bs own (seen k n h f qs new x bs own on is m y cs ds now can.slot)
+  unfolding headers_grown
+  all_steps is m y cs ds now rest = by_slots is m y cs ds now rest where
+    joined : (s : SeenFile) (us : List PlanWrite)
+        → ((next : Owners) → AreHeadsWritten k (grown_numbers k.geometry s new) nothing X bs (after_writes (new_header_writes k.geometry s qs new ++ us) bs) next → StepsOf end k ws (after_writes (new_header_writes k.geometry s qs new ++ us) bs) next)
+        → (next : Owners) → AreHeadsWritten k (grown_numbers k.geometry s new) nothing X bs (after_writes us (after_writes (new_header_writes k.geometry s qs new) bs)) next
+        → StepsOf end k ws (after_writes us (after_writes (new_header_writes k.geometry s qs new) bs)) next
+    joined s us go = subst (λ z. (next : Owners) → AreHeadsWritten k (grown_numbers k.geometry s new) nothing X bs z next → StepsOf end k ws z next) (after_both (new_header_writes k.geometry s qs new) us bs) go
 
-  count : f.clusters ≡ length cs
-  count = ap (λ (y : File). y.clusters) file ∙ counted g bs own x n h on.spelt is.number is.reads
-
-  all_few : length (cs ++ qs) ≤ header_most
-  all_few = let a = length-append cs qs in let c = count in omega arith
-
-  inside : (q : ℕ) → Has (cs ++ qs) q → q < total_of k.geometry
-  inside q t = elim (has_parted cs qs q t) [
-    | inl u ↦ within g bs own x n h on.spelt is.number is.reads q u
-    | inr u ↦
-        let at : slice_get own.clusters q ≡ Some (Outside k.node) = (on.outs.clusters.all q).1 (inl u) in
-        let lt = slice_get_within own.clusters q (Outside k.node) at in
-        let all = on.spelt.counts.clusters in
-        omega arith
-  ]
-
-  apart : (q : ℕ) → Has cs q → Has qs q → ⊥
-  apart q t u =
-      let a : slice_get own.clusters q ≡ Some (InFile n) = (owned g bs own x n h on.spelt is.number is.reads q).0 t in
-      let c : slice_get own.clusters q ≡ Some (Outside k.node) = (on.outs.clusters.all q).1 (inl u) in
-      let both : Some (InFile n) ≡ Some (Outside k.node) = sym a ∙ c in
-      cc
-
-  all_once : Once (cs ++ qs)
-  all_once = once_in_a_row cs qs (once g bs own x n h on.spelt is.number is.reads) (once_first qs k.stock.clusters on.outs.clusters.once) apart
-
-  mine : (q : ℕ) → Has (cs ++ qs) q ↔ (slice_get (filed n (things qs None) own).clusters q ≡ Some (InFile n))
-  mine q = (
-    (λ t. (takes.clusters q).1 (elim (has_parted cs qs q t) [ inl u ↦ inr ((owned g bs own x n h on.spelt is.number is.reads q).0 u) | inr u ↦ inl u ])),
-    (λ e. elim ((takes.clusters q).0 e) [ inl u ↦ has_second cs qs q u | inr o ↦ has_first cs qs q ((owned g bs own x n h on.spelt is.number is.reads q).1 o) ]),
-  )
-
-  numbers : (i : ℕ) → (slice_get (filed n (things qs None) own).numbers i ≡ Some (InFile n)) ↔ (slice_get own.numbers i ≡ Some (InFile n))
-  numbers i = (
-    (λ e. elim ((takes.numbers i).0 e) [ inl none ↦ absurd none | inr o ↦ o ]),
-    (λ o. (takes.numbers i).1 (inr o)),
-  )
-
-  -- ---- the header
-
-  abbrev fields : Hdr
-  fields = record (with_clusters k.geometry h (length cs + length qs)) { mark = mark_for (k.geometry.cluster * length cs) h.mark }
-
-  marks : grown_mark k.geometry (file_in k.geometry bs n h).file ≡ mark_for (k.geometry.cluster * length cs) h.mark
-  marks = ap (λ (z : ℕ). mark_for (k.geometry.cluster * z) h.mark) (counted g bs own x n h on.spelt is.number is.reads)
-
-  mark_low : mark_for (k.geometry.cluster * length cs) h.mark ≤ k.geometry.cluster * length cs + 1
-  mark_low = by_test (h.mark == 0) where
-    by_test : (t : Bool) → cond t (k.geometry.cluster * length cs + 1) h.mark ≤ k.geometry.cluster * length cs + 1
-    by_test true = omega arith
-    by_test false = let m = mark_within g bs own x n h on.spelt is.number is.reads in let s = sized g bs own x n h on.spelt is.number is.reads in omega arith
-
-  at : IsHeadWith k.geometry n (grown_header k.geometry (file_in k.geometry bs n h) qs) fields (cs ++ qs)
-  unfolding grown_header
-  at =
-      let geometry = on.spelt.counts.geometry in
-      let len = length-append cs qs in
-      let more : g.cluster * (length cs + length qs) ≡ g.cluster * length cs + g.cluster * length qs = omega arith in
-      let size : g.cluster * length (cs ++ qs) ≡ g.cluster * length cs + g.cluster * length qs = ap (λ z. g.cluster * z) len ∙ more in
-      let s = sized g bs own x n h on.spelt is.number is.reads in
-      let end = end_within g bs own x n h on.spelt is.number is.reads in
-      let mark = mark_within g bs own x n h on.spelt is.number is.reads in
-      let first : IsHeadWith g n (with_runs b (runs_for g (cs ++ qs))) (with_clusters g h (length (cs ++ qs))) (cs ++ qs) =
-      rerun g n b h (cs ++ qs) geometry (head_whole g bs own x n h on.spelt is.number is.reads) is.reads (number_is g bs own x n h on.spelt is.number is.reads) inside all_few (omega arith) (omega arith) in
-      let sized_first : IsHeadWith g n (with_runs b (runs_for g (cs ++ qs))) (with_clusters g h (length cs + length qs)) (cs ++ qs) =
-      subst (λ (z : ℕ). IsHeadWith g n (with_runs b (runs_for g (cs ++ qs))) (with_clusters g h z) (cs ++ qs)) len first in
-      let low = mark_low in
-      let up : g.cluster * length cs ≤ 16 * length cs = mul-le-mul_right (length cs) geometry.cluster_to in
-      let all = all_few in
-      let marked = remark g n (with_runs b (runs_for g (cs ++ qs))) (with_clusters g h (length cs + length qs)) (cs ++ qs) (mark_for (g.cluster * length cs) h.mark) sized_first (omega arith) (omega arith) in
-      let last = scatter g n _ fields (cs ++ qs) marked in
-      rw (marks, seen_clusters g bs own x on.spelt n h is.number is.reads) last
-
-  -- ---- the file
-
-  joined : blocks_at bs (spread k.geometry.cluster (cs ++ qs)) ≡ old ++ blocks_at bs (spread k.geometry.cluster qs)
-  joined = ap (blocks_at bs) (spread_joined g.cluster cs qs) ∙ blocks_joined bs (spread g.cluster cs) (spread g.cluster qs)
-
-  told : file_of k.geometry.cluster n fields (blocks_at bs (spread k.geometry.cluster (cs ++ qs))) ≡ grown x f (length qs)
-  told =
-      let s = sized g bs own x n h on.spelt is.number is.reads in
-      let m = mark_within g bs own x n h on.spelt is.number is.reads in
-      ap (λ (body : List Block). file_of g.cluster n fields body) joined
-      ∙ grown_told g x.factor n h (length cs) (length qs) old (blocks_at bs (spread g.cluster qs)) on.spelt.constants.factor on.spelt.counts.geometry.cluster_from (not_structure n is.above) dir s (length-shown g bs own x n h on.spelt is.number is.reads) (omega arith)
-      ∙ ap (λ (y : File). grown x y (length qs)) (sym file)
-
-  with : IsFileWith k.geometry bs own (filed n (things qs None) own) x k.node n (grown_header k.geometry (file_in k.geometry bs n h) qs) fields (cs ++ qs) (grown x f (length qs))
-  with = record {
-    moves = takes.moves;
-    once = all_once;
-    clusters = mine;
-    numbers = numbers;
-    few = λ above. let a = all_few in omega arith;
-    system = λ low_number. let above = is.above in absurd (omega arith);
-    dir = ap (λ (d : Bool). dir_found g n (Some (record fields { dir = d })) (alone n fields (grown_header g (file_in g bs n h) qs)) (blocks_at bs (spread g.cluster (cs ++ qs)))) dir;
-    file = told;
-    reserved = λ old_slot low_number at_slot. let above = is.above in absurd (omega arith);
-  }
-
-  pub grown_for : IsHeaderFor k.geometry bs k.node n n own (filed n (things qs None) own) x (grown_header k.geometry (file_in k.geometry bs n h) qs) (slot.Used (grown x f (length qs)))
-  grown_for = head_for g bs own new x k.node n (grown_header g (file_in g bs n h) qs) fields (cs ++ qs) (grown x f (length qs)) on.spelt is.number (not_structure n is.above) h is.reads at with
-
-  pub grown_takes : Takes k.node n own (filed n (things qs None) own) (things qs None) k.stock
-  grown_takes = takes
+    by_slots : (is' : List ℕ) (m' : ℕ) (y' : Hdr) (cs' ds' : List ℕ) (now' : IsNow k.geometry own x n h f bs is' m' y' cs' ds') → Goes end k n f qs new ws x bs own (seen k n h f qs new x bs own on is' m' y' cs' ds' now' can.slot)
+    by_slots [] m' y' cs' ds' now' go =
+        let s = seen k n h f qs new x bs own on [] m' y' cs' ds' now' can.slot in
+        let us = old_header_writes k.geometry s qs new [] in
+        subst (λ vs. StepsOf end k vs bs own) (sym (append_assoc (new_header_writes k.geometry s qs new) us ws))
+        (new_steps end k n h f qs new x bs own on [] m' y' cs' ds' now' can.slot (us ++ ws) can.most (short k n h f qs new x bs own on can [] m' y' cs' ds' now') charged (λ ready. one_behind m' y' cs' ds' now' ready (joined s us go)))
+    by_slots (i ∷ is') m' y' cs' ds' now' go =
+        let s = seen k n h f qs new x bs own on (i ∷ is') m' y' cs' ds' now' can.slot in
+        let us = old_header_writes k.geometry s qs new (placed k.geometry bs (i ∷ is')) in
+        subst (λ vs. StepsOf end k vs bs own) (sym (append_assoc (new_header_writes k.geometry s qs new) us ws))
+        (new_steps end k n h f qs new x bs own on (i ∷ is') m' y' cs' ds' now' can.slot (us ++ ws) can.most (short k n h f qs new x bs own on can (i ∷ is') m' y' cs' ds' now') charged (λ ready. two_behind i is' m' y' cs' ds' now' ready (joined s us go)))
 
 pub grown_steps : (end : End) → GrownSteps end
-grown_steps end k n h f qs s ws x bs own on is flat few lock stage rest =
-    let new : Owners = filed n (things qs None) own in
-    head_steps end k n (slot.Used (grown x f (length qs))) (grown_write k.geometry (file_in k.geometry bs n h) qs s) ws x bs own new on.spelt lock refl (grown_for k n h f qs x bs own on is flat few)
-    (grown_takes k n h f qs x bs own on is flat few).outs stage (rest new)
+grown_steps end k n h f qs new ws x bs own on there can lock charged done rest =
+    let g : Geometry = k.geometry in
+    let now = now_has g own x n h f bs on.spelt there in
+    let hs = heads g bs own x n h on.spelt there.number there.above there.reads in
+    subst (Goes end k n f qs new ws x bs own) (sym (seen_is k n h f qs new x bs own on hs.is hs.m hs.x hs.cs hs.ds now can.slot))
+    (all_steps end k n h f qs new ws x bs own on can lock charged done hs.is hs.m hs.x hs.cs hs.ds now) rest

@@ -20,8 +20,8 @@ use Rattle.vol_spell.proofs.FilePlaces.{places, count}
 use Rattle.vol_spell.proofs.Frames.{of_body}
 use Rattle.vol_under.specs.Guards.{Lock, guard_by, guard_of}
 use Rattle.op_law.specs.SeenFiles.{file_place}
-use Rattle.op_law.proofs.SeenRuns.{seen_runs}
 use Rattle.op_steps.specs.Files.{file_in}
+use Rattle.op_steps.proofs.WholeFiles.{whole_runs}
 
 module _ (g : Geometry) (bs : List Block) (own : Owners) (x : Cat) (n : ℕ) (h : Hdr) (f : File) (s : Spells g bs own x) (there : IsFileThere g x bs n h f) where
   module _ (vbn : ℕ) (from : 1 ≤ vbn) (to : vbn ≤ g.cluster * f.clusters) where
@@ -29,7 +29,7 @@ module _ (g : Geometry) (bs : List Block) (own : Owners) (x : Cat) (n : ℕ) (h 
     pub place : slice_get (lbns_in (told_of g bs n).runs) (vbn - 1) ≡ Some (file_place (file_in g bs n h) vbn)
     place =
         slice_get-get_or (lbns_in (told_of g bs n).runs) (vbn - 1) 0 (let e = count g bs own x n h f s there in omega arith)
-        ∙ ap (λ (rs : List Run). Some (slice_index_or (lbns_in rs) (vbn - 1) 0)) (sym (seen_runs g bs own x s n h there.number there.reads))
+        ∙ ap (λ (rs : List Run). Some (slice_index_or (lbns_in rs) (vbn - 1) 0)) (sym (whole_runs g bs n h there.reads))
 
     pub body_place : slice_get (body_places n (told_of g bs n)) (vbn - 1) ≡ Some (file_place (file_in g bs n h) vbn)
     body_place = ap (λ (ls : List ℕ). slice_get ls (vbn - 1)) (places g bs own x n h f s there) ∙ place

@@ -12,7 +12,7 @@ use Rattle.base_words.specs.Lists.{Has}
 use Rattle.vol_spell.specs.Owners.{Owners}
 use Rattle.vol_spell.specs.Reading.{header_block}
 use Rattle.vol_under.specs.Chains.{End}
-use Rattle.op_law.specs.Channels.{written_header, last_header}
+use Rattle.op_law.specs.Channels.{written_header, sizes_write}
 use Rattle.vol_spell.specs.Files.{with_sizes, IsFileThere, IsResized}
 use Rattle.op_law.specs.Writing.{empty_handed, header_write}
 use Rattle.op_steps.specs.Chained.{Chain, StepsOf, StageOf, after_writes, StandsOn}
@@ -68,7 +68,7 @@ byte_in false byte le = le
 pub header_step : (end : End) (k : Chain) (n : ℕ) (h : Hdr) (f new : File) (vbn : ℕ) (x : Cat) (bs : List Block) (own : Owners) → StandsOn k empty_handed x bs own → IsFileThere k.geometry x bs n h f → f.dir ≡ false
     → IsResized k.geometry bs n h f new → Has k.locks (S n) → StageOf k stage.Done (with_file x n new) → written_header (file_in k.geometry bs n h) vbn ≡ with_sizes (header_block k.geometry bs n) new
     → ((after : List Block) → StandsOn k empty_handed (with_file x n new) after own → end after own)
-    → StepsOf end k (last_header k.geometry (file_in k.geometry bs n h) vbn ∷ []) bs own
+    → StepsOf end k (sizes_write k.geometry (file_in k.geometry bs n h) vbn ∷ []) bs own
 header_step end k n h f new vbn x bs own on there flat sizes lock done same rest =
     subst (λ (b : Block). StepsOf end k (header_write k.geometry n b stage.Done empty_handed ∷ []) bs own) (sym same)
-    (sized_steps end k n h f new stage.Done [] x bs own on there flat sizes lock done (λ w. rest (after_writes (header_write k.geometry n (with_sizes (header_block k.geometry bs n) new) stage.Done empty_handed ∷ []) bs) (record { spelt = w.spelt; outs = w.outs })))
+    (sized_steps end k n h f new stage.Done [] x bs own on there flat sizes lock done (λ w same_chain. rest (after_writes (header_write k.geometry n (with_sizes (header_block k.geometry bs n) new) stage.Done empty_handed ∷ []) bs) (record { spelt = w.spelt; outs = w.outs })))

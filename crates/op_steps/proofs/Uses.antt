@@ -11,6 +11,7 @@ use Rattle.fx_header.specs.declared.slot.HeaderFault.{HeaderFault}
 use Rattle.plain_cat.specs.declared.ids.Fid.{Fid}
 use Rattle.plain_cat.specs.declared.cat.Cat.{Cat}
 use Rattle.plain_rules.specs.Lookups.{file_in, of_seq, in_use}
+use Rattle.vol_spell.specs.Files.{blocks_told}
 use Rattle.vol_spell.specs.Owners.{Owners}
 use Rattle.vol_parts.specs.declared.geometry.Geometry.{Geometry}
 use Rattle.vol_parts.specs.Volumes.{fields_in}
@@ -19,7 +20,7 @@ use Rattle.vol_spell.specs.Reading.{IsFileNumber, header_block, head_told}
 use Rattle.vol_spell.specs.Spelling.{Spells}
 use Rattle.op_law.specs.Rows.{is_number}
 use Rattle.op_law.specs.Refusing.{header_of_seq, used_in}
-use Rattle.vol_spell.proofs.HeadSlots.{file_blocks, slot_is}
+use Rattle.vol_spell.proofs.HeadSlots.{slot_is}
 
 -- the file of this sequence that a slot with this header tells
 used_slot : (factor n seq : ℕ) (r : Result Head HeaderFault) (body : List Block)
@@ -45,10 +46,10 @@ used_reads seq b h e = used_of_seq seq (head_told b) h e
 
 module _ (g : Geometry) (bs : List Block) (own : Owners) (c : Cat) (s : Spells g bs own c) (fid : Fid) where
   pub used_is : IsFileNumber g fid.num
-      → in_use c fid ≡ option_map (λ h. file_of g.cluster fid.num h (file_blocks bs (header_block g bs fid.num))) (used_in fid.seq (header_block g bs fid.num))
+      → in_use c fid ≡ option_map (λ h. file_of g.cluster fid.num h (blocks_told g bs fid.num)) (used_in fid.seq (header_block g bs fid.num))
   used_is is =
       ap (λ x. of_seq fid.seq (file_in x)) (slot_is g bs own c s fid.num is)
-      ∙ used_slot g.cluster fid.num fid.seq (head_told (header_block g bs fid.num)) (file_blocks bs (header_block g bs fid.num))
+      ∙ used_slot g.cluster fid.num fid.seq (head_told (header_block g bs fid.num)) (blocks_told g bs fid.num)
 
   -- a number out of range has none
   pub not_used : is_number g fid ≡ false → in_use c fid ≡ None

@@ -18,12 +18,12 @@ use Rattle.vol_spell.specs.Owners.{Owners}
 use Rattle.vol_spell.proofs.Placing.{length-blocks_at}
 use Rattle.vol_parts.specs.declared.geometry.Geometry.{Geometry}
 use Rattle.vol_parts.specs.Catalogues.{written_blocks, file_of}
-use Rattle.vol_spell.specs.Reading.{header_block, told_of}
+use Rattle.vol_spell.specs.Reading.{told_of}
 use Rattle.vol_spell.specs.Spelling.{Spells}
 use Rattle.vol_under.specs.Chains.{End}
 use Rattle.op_law.specs.declared.need.PlanWrite.{PlanWrite}
-use Rattle.op_law.specs.Channels.{zero_writes, last_header, block_writes}
-use Rattle.op_law.specs.Refusing.{seen_file}
+use Rattle.op_law.specs.Channels.{zero_writes, sizes_write, block_writes}
+use Rattle.op_law.specs.Refusing.{SeenFile}
 use Rattle.op_law.specs.SeenFiles.{file_write}
 use Rattle.op_law.specs.Writing.{empty_handed}
 use Rattle.op_steps.specs.Chained.{Chain, StepsOf, StageOf, after_writes, StandsOn}
@@ -47,15 +47,12 @@ module _ (end : End) (k : Chain) (n : ℕ) (h : Hdr) (f : File) (vbn : ℕ) (b :
   abbrev limit : ℕ
   limit = k.geometry.cluster * f.clusters
 
-  abbrev head : Block
-  head = header_block k.geometry bs n
+  -- the writes by the file as it is seen
+  abbrev last_by : SeenFile → List PlanWrite
+  last_by s = sizes_write k.geometry s vbn ∷ []
 
-  -- the writes by the block of the header
-  abbrev last_by : Block → List PlanWrite
-  last_by hb = last_header k.geometry (seen_file k.geometry n hb h) vbn ∷ []
-
-  abbrev tail_by : Block → List PlanWrite
-  tail_by hb = file_write (seen_file k.geometry n hb h) vbn b stage.Nothing ∷ last_header k.geometry (seen_file k.geometry n hb h) vbn ∷ []
+  abbrev tail_by : SeenFile → List PlanWrite
+  tail_by s = file_write s vbn b stage.Nothing ∷ sizes_write k.geometry s vbn ∷ []
 
   file_so : f ≡ file_of k.geometry.cluster n h (blocks_in k.geometry bs n)
   file_so = file g bs own x n h f on.spelt has.there
@@ -141,7 +138,7 @@ module _ (end : End) (k : Chain) (n : ℕ) (h : Hdr) (f : File) (vbn : ℕ) (b :
     -- the header behind the block
     past_header : (last : List Block) → StandsOn k empty_handed x last own → IsFileThere k.geometry x last n h f
         → blocks_in k.geometry last n ≡ slice_set (written (filled (f.mark - 1) (vbn - f.mark) zeros) (blocks_in k.geometry bs n)) (vbn - 1) b
-        → StepsOf end k (last_header k.geometry (file_in k.geometry last n h) vbn ∷ []) last own
+        → StepsOf end k (sizes_write k.geometry (file_in k.geometry last n h) vbn ∷ []) last own
     past_header last on' there' body =
         let le = has.to in
         let top : vbn + 1 ≤ k.geometry.cluster * f.clusters + 1 = omega arith in
@@ -159,27 +156,27 @@ module _ (end : End) (k : Chain) (n : ℕ) (h : Hdr) (f : File) (vbn : ℕ) (b :
     -- the block behind the zeros
     past_tail : (last : List Block) → StandsOn k empty_handed x last own → IsFileThere k.geometry x last n h f
         → blocks_in k.geometry last n ≡ written (filled (f.mark - 1) (vbn - f.mark) zeros) (blocks_in k.geometry bs n)
-        → StepsOf end k (tail_by (header_block k.geometry last n)) last own
+        → StepsOf end k (tail_by (file_in k.geometry last n h)) last own
     past_tail last on' there' body =
         let same : with_file x n (showing f vbn b) ≡ x = same_past x n f vbn b there'.file past in
-        block_steps end k n h f vbn b stage.Nothing (last_by (header_block g last n)) x last own on'
+        block_steps end k n h f vbn b stage.Nothing (last_by (file_in g last n h)) x last own on'
         (record { there = there'; flat = has.flat; from = has.from; to = has.to }) whole (subst (StageOf k stage.Nothing) (sym same) first) (behind same (after_writes (file_write (file_in g last n h) vbn b stage.Nothing ∷ []) last)) where
-          behind : with_file x n (showing f vbn b) ≡ x → (after : List Block) → IsBlockWritten k n vbn b (with_file x n (showing f vbn b)) own last after → StepsOf end k (last_by (header_block k.geometry last n)) after own
+          behind : with_file x n (showing f vbn b) ≡ x → (after : List Block) → IsBlockWritten k n vbn b (with_file x n (showing f vbn b)) own last after → StepsOf end k (last_by (file_in k.geometry last n h)) after own
           behind same after w =
-              subst (λ (hb : Block). StepsOf end k (last_by hb) after own) w.header
+              subst (λ (s : SeenFile). StepsOf end k (last_by s) after own) (w.seen h)
               (past_header after (record { spelt = subst (λ (y : Cat). Spells g after own y) same w.on.spelt; outs = w.on.outs }) (still_there k n h f x last after w.header there')
               (w.blocks ∙ ap (λ (ys : List Block). slice_set ys (vbn - 1) b) body))
 
-    past_steps : StepsOf end k (zero_writes (file_in k.geometry bs n h) vbn ++ tail_by (header_block k.geometry bs n)) bs own
+    past_steps : StepsOf end k (zero_writes (file_in k.geometry bs n h) vbn ++ tail_by (file_in k.geometry bs n h)) bs own
     past_steps =
         let low = marked in
         let to = marked_to in
         let le = has.to in
         let start : f.mark - 1 + 1 ≡ h.mark = (let e = mark_so in omega arith) in
-        subst (λ i. StepsOf end k (map (λ v. file_write (file_in g bs n h) v zeros stage.Nothing) (range_with_len i (vbn - h.mark)) ++ tail_by head) bs own) start
-        (subst (λ z. StepsOf end k (map (λ v. file_write (file_in g bs n h) v zeros stage.Nothing) (range_with_len (f.mark - 1 + 1) (vbn - z)) ++ tail_by head) bs own) mark_so
-        (zero_steps end k n h f x own first has.flat marked (tail_by head) (vbn - f.mark) (f.mark - 1) bs on has.there (omega arith) (omega arith)
-        (λ last on' same body. subst (λ (hb : Block). StepsOf end k (tail_by hb) last own) same (past_tail last on' (still_there k n h f x bs last same has.there) body))))
+        subst (λ i. StepsOf end k (map (λ v. file_write (file_in g bs n h) v zeros stage.Nothing) (range_with_len i (vbn - h.mark)) ++ tail_by (file_in k.geometry bs n h)) bs own) start
+        (subst (λ z. StepsOf end k (map (λ v. file_write (file_in g bs n h) v zeros stage.Nothing) (range_with_len (f.mark - 1 + 1) (vbn - z)) ++ tail_by (file_in k.geometry bs n h)) bs own) mark_so
+        (zero_steps end k n h f x own first has.flat marked (tail_by (file_in k.geometry bs n h)) (vbn - f.mark) (f.mark - 1) bs on has.there (omega arith) (omega arith)
+        (λ last on' same body. subst (λ (s : SeenFile). StepsOf end k (tail_by s) last own) same (past_tail last on' (still_there k n h f x bs last (ap (λ (s : SeenFile). s.head) same) has.there) body))))
 
   -- ---- below the mark, or where there is none
 
@@ -194,7 +191,7 @@ module _ (end : End) (k : Chain) (n : ℕ) (h : Hdr) (f : File) (vbn : ℕ) (b :
         ∙ sym (ap (λ (t : Bool). record f { written = cond t (f.written ++ (replicate (vbn - f.mark) zeros ++ b ∷ [])) (slice_set f.written (vbn - 1) b) }) past)
 
     -- and the header behind it
-    behind_data : nat_le f.end vbn ≡ true → (after : List Block) → IsBlockWritten k n vbn b (with_file x n (record f { written = with_block f vbn b })) own bs after → StepsOf end k (last_by (header_block k.geometry bs n)) after own
+    behind_data : nat_le f.end vbn ≡ true → (after : List Block) → IsBlockWritten k n vbn b (with_file x n (record f { written = with_block f vbn b })) own bs after → StepsOf end k (last_by (file_in k.geometry bs n h)) after own
     behind_data ends after w =
         let to = has.to in
         let there' : IsFileThere g (with_file x n set) after n h set = record {
@@ -216,15 +213,15 @@ module _ (end : End) (k : Chain) (n : ℕ) (h : Hdr) (f : File) (vbn : ℕ) (b :
               ∙ ap (λ z. written_blocks n (record h { mark = z }) (slice_set (blocks_in g bs n) (vbn - 1) b)) mark_so
               ∙ ap (λ (y : File). y.written) (shows g bs own x n h f on.spelt has.there vbn has.from has.to has.flat b ∙ set_so);
         } in
-        subst (λ (hb : Block). StepsOf end k (last_by hb) after own) w.header
+        subst (λ (s : SeenFile). StepsOf end k (last_by s) after own) (w.seen h)
         (header_step end k n h set new vbn (with_file x n set) after own w.on there' has.flat sizes lock (subst (StageOf k stage.Done) (sym all) done)
         (header_as k n h after f vbn false true (with_block f vbn b) mark_so end_so byte_so past ends)
         (λ last on'. rest last (subst (λ (y : Cat). StandsOn k empty_handed y last own) all on')))
 
     data_steps : nat_le f.end vbn ≡ true → StageOf k stage.DataOnly (with_file x n (record f { written = with_block f vbn b }))
-        → StepsOf end k (file_write (file_in k.geometry bs n h) vbn b stage.DataOnly ∷ last_by (header_block k.geometry bs n)) bs own
+        → StepsOf end k (file_write (file_in k.geometry bs n h) vbn b stage.DataOnly ∷ last_by (file_in k.geometry bs n h)) bs own
     data_steps ends early =
-        block_steps end k n h f vbn b stage.DataOnly (last_by head) x bs own on has whole (subst (λ (y : File). StageOf k stage.DataOnly (with_file x n y)) (sym set_so) early)
+        block_steps end k n h f vbn b stage.DataOnly (last_by (file_in k.geometry bs n h)) x bs own on has whole (subst (λ (y : File). StageOf k stage.DataOnly (with_file x n y)) (sym set_so) early)
         (λ w. let after : List Block = after_writes (file_write (file_in g bs n h) vbn b stage.DataOnly ∷ []) bs in behind_data ends after (subst (λ (y : File). IsBlockWritten k n vbn b (with_file x n y) own bs after) set_so w))
 
     alone_steps : nat_le f.end vbn ≡ false → StepsOf end k (file_write (file_in k.geometry bs n h) vbn b stage.Done ∷ []) bs own
@@ -239,13 +236,13 @@ write_steps end k n h f vbn b x bs own on has whole lock first early done rest =
   same : f ≡ file_of k.geometry.cluster n h (blocks_in k.geometry bs n)
   same = file k.geometry bs own x n h f on.spelt has.there
 
-  by_end : is_past_mark f vbn ≡ false → (t : Bool) → nat_le h.end vbn ≡ t → StepsOf end k (cond t (file_write (file_in k.geometry bs n h) vbn b stage.DataOnly ∷ last_header k.geometry (file_in k.geometry bs n h) vbn ∷ []) (file_write (file_in k.geometry bs n h) vbn b stage.Done ∷ [])) bs own
+  by_end : is_past_mark f vbn ≡ false → (t : Bool) → nat_le h.end vbn ≡ t → StepsOf end k (cond t (file_write (file_in k.geometry bs n h) vbn b stage.DataOnly ∷ sizes_write k.geometry (file_in k.geometry bs n h) vbn ∷ []) (file_write (file_in k.geometry bs n h) vbn b stage.Done ∷ [])) bs own
   by_end past true e =
       let ends : nat_le f.end vbn ≡ true = ap (λ (y : File). nat_le y.end vbn) same ∙ e in
       data_steps end k n h f vbn b x bs own on has whole lock done rest past ends (early (ap (λ (t : Bool). not t && nat_le f.end vbn) past ∙ ends))
   by_end past false e = alone_steps end k n h f vbn b x bs own on has whole lock done rest past (ap (λ (y : File). nat_le y.end vbn) same ∙ e)
 
-  by_past : (t : Bool) → is_past_mark (file_in k.geometry bs n h).file vbn ≡ t → StepsOf end k (cond t (zero_writes (file_in k.geometry bs n h) vbn ++ file_write (file_in k.geometry bs n h) vbn b stage.Nothing ∷ last_header k.geometry (file_in k.geometry bs n h) vbn ∷ [])
-      (cond (nat_le h.end vbn) (file_write (file_in k.geometry bs n h) vbn b stage.DataOnly ∷ last_header k.geometry (file_in k.geometry bs n h) vbn ∷ []) (file_write (file_in k.geometry bs n h) vbn b stage.Done ∷ []))) bs own
+  by_past : (t : Bool) → is_past_mark (file_in k.geometry bs n h).file vbn ≡ t → StepsOf end k (cond t (zero_writes (file_in k.geometry bs n h) vbn ++ file_write (file_in k.geometry bs n h) vbn b stage.Nothing ∷ sizes_write k.geometry (file_in k.geometry bs n h) vbn ∷ [])
+      (cond (nat_le h.end vbn) (file_write (file_in k.geometry bs n h) vbn b stage.DataOnly ∷ sizes_write k.geometry (file_in k.geometry bs n h) vbn ∷ []) (file_write (file_in k.geometry bs n h) vbn b stage.Done ∷ []))) bs own
   by_past true e = past_steps end k n h f vbn b x bs own on has whole lock done rest (ap (λ (y : File). is_past_mark y vbn) same ∙ e) (nat_le f.end vbn) refl first
   by_past false e = by_end (ap (λ (y : File). is_past_mark y vbn) same ∙ e) (nat_le h.end vbn) refl

@@ -18,7 +18,7 @@ use Rattle.vol_spell.specs.Reading.{header_block, head_told}
 use Rattle.vol_spell.specs.Spelling.{Spells}
 use Rattle.vol_under.specs.Chains.{End}
 use Rattle.op_law.specs.declared.need.PlanWrite.{PlanWrite}
-use Rattle.op_law.specs.Refusing.{seen_file}
+use Rattle.op_law.specs.Refusing.{SeenFile}
 use Rattle.op_law.specs.SeenFiles.{file_write}
 use Rattle.op_law.specs.Writing.{empty_handed}
 use Rattle.op_steps.specs.Chained.{Chain, StepsOf, StageOf, after_writes, StandsOn}
@@ -45,33 +45,33 @@ lies_past f vbn low le =
     ap (λ t. not t && nat_le f.mark vbn) some ∙ to
 
 module _ (end : End) (k : Chain) (n : ℕ) (h : Hdr) (f : File) (x : Cat) (own : Owners) (first : StageOf k stage.Nothing x) (flat : f.dir ≡ false) (marked : 1 ≤ f.mark) (ws : List PlanWrite) where
-  -- the zeros of j blocks behind the first m, by the block of the file's header
-  abbrev pub zeros_by : Block → ℕ → ℕ → List PlanWrite
-  zeros_by hb m j = map (λ v. file_write (seen_file k.geometry n hb h) v zeros stage.Nothing) (range_with_len (m + 1) j)
+  -- the zeros of j blocks behind the first m, by the file as it is seen
+  abbrev pub zeros_by : SeenFile → ℕ → ℕ → List PlanWrite
+  zeros_by s m j = map (λ v. file_write s v zeros stage.Nothing) (range_with_len (m + 1) j)
 
   -- the writes behind them are steps on what they leave
   abbrev pub AfterZeros : ℕ → ℕ → List Block → Type 0
-  AfterZeros j m bs = (after : List Block) → StandsOn k empty_handed x after own → header_block k.geometry after n ≡ header_block k.geometry bs n
+  AfterZeros j m bs = (after : List Block) → StandsOn k empty_handed x after own → file_in k.geometry after n h ≡ file_in k.geometry bs n h
       → blocks_in k.geometry after n ≡ written (filled m j zeros) (blocks_in k.geometry bs n) → StepsOf end k ws after own
 
   abbrev pub ZeroSteps : ℕ → ℕ → Type 0
   ZeroSteps j m = (bs : List Block) → StandsOn k empty_handed x bs own → IsFileThere k.geometry x bs n h f → f.mark ≤ m + 1 → m + j ≤ k.geometry.cluster * f.clusters → AfterZeros j m bs
-      → StepsOf end k (zeros_by (header_block k.geometry bs n) m j ++ ws) bs own
+      → StepsOf end k (zeros_by (file_in k.geometry bs n h) m j ++ ws) bs own
 
   -- those behind the first
   others_behind : (j m : ℕ) → ZeroSteps j (m + 1) → (bs : List Block) → IsFileThere k.geometry x bs n h f → f.mark ≤ m + 1 → m + suc j ≤ k.geometry.cluster * f.clusters → AfterZeros (suc j) m bs
       → with_file x n (showing f (m + 1) zeros) ≡ x → (after : List Block) → IsBlockWritten k n (m + 1) zeros (with_file x n (showing f (m + 1) zeros)) own bs after
-      → StepsOf end k (zeros_by (header_block k.geometry bs n) (m + 1) j ++ ws) after own
+      → StepsOf end k (zeros_by (file_in k.geometry bs n h) (m + 1) j ++ ws) after own
   others_behind j m more bs there le fits rest same after w =
-      subst (λ (hb : Block). StepsOf end k (zeros_by hb (m + 1) j ++ ws) after own) w.header
+      subst (λ (s : SeenFile). StepsOf end k (zeros_by s (m + 1) j ++ ws) after own) (w.seen h)
       (more after (record { spelt = subst (λ (y : Cat). Spells k.geometry after own y) same w.on.spelt; outs = w.on.outs })
       (still_there k n h f x bs after w.header there) (omega arith) (omega arith)
-      (λ last on' head body. rest last on' (head ∙ w.header) (body ∙ ap (written (filled (m + 1) j zeros)) w.blocks)))
+      (λ last on' head body. rest last on' (head ∙ w.seen h) (body ∙ ap (written (filled (m + 1) j zeros)) w.blocks)))
 
   pub zero_steps : (j m : ℕ) → ZeroSteps j m
   zero_steps zero m bs on there le fits rest = rest bs on refl refl
   zero_steps (suc j) m bs on there le fits rest =
       let same : with_file x n (showing f (m + 1) zeros) ≡ x = same_past x n f (m + 1) zeros there.file (lies_past f (m + 1) marked le) in
-      block_steps end k n h f (m + 1) zeros stage.Nothing (zeros_by (header_block k.geometry bs n) (m + 1) j ++ ws) x bs own on
+      block_steps end k n h f (m + 1) zeros stage.Nothing (zeros_by (file_in k.geometry bs n h) (m + 1) j ++ ws) x bs own on
       (record { there = there; flat = flat; from = omega arith; to = omega arith }) whole_zeros (subst (StageOf k stage.Nothing) (sym same) first)
       (others_behind j m (zero_steps j (m + 1)) bs there le fits rest same (after_writes (file_write (file_in k.geometry bs n h) (m + 1) zeros stage.Nothing ∷ []) bs))

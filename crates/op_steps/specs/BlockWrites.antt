@@ -10,13 +10,13 @@ use Rattle.plain_cat.specs.declared.cat.Cat.{Cat}
 use Rattle.plain_cat.specs.declared.cat.File.{File}
 use Rattle.plain_rules.specs.Changes.{with_file, is_past_mark, with_block, ended, marked_up}
 use Rattle.base_words.specs.Lists.{Has}
-use Rattle.vol_spell.specs.Owners.{Owners}
+use Rattle.vol_spell.specs.Owners.{Owners, Things}
 use Rattle.vol_parts.specs.declared.geometry.Geometry.{Geometry}
 use Rattle.vol_spell.specs.Reading.{header_block}
 use Rattle.vol_spell.specs.Spelling.{Spells}
 use Rattle.vol_under.specs.Chains.{End}
 use Rattle.op_law.specs.declared.need.PlanWrite.{PlanWrite}
-use Rattle.op_law.specs.Laws.{AreNamed, LeavesDirs}
+use Rattle.op_law.specs.Laws.{AreNamed, LeavesDirs, LeavesSlots}
 use Rattle.op_law.specs.SeenFiles.{file_write}
 use Rattle.op_law.specs.Channels.{block_writes}
 use Rattle.op_law.specs.Writing.{empty_handed}
@@ -33,10 +33,11 @@ pub record HasBlock (g : Geometry) (x : Cat) (bs : List Block) (n : ℕ) (h : Hd
 
 -- ---- one block
 
--- virtual block `vbn` of file n was written: from `bs` to `after`, which spell x, and its header is the same
+-- virtual block `vbn` of file n was written: from `bs` to `after`, which spell x, and its headers are the same
 pub record IsBlockWritten (k : Chain) (n vbn : ℕ) (b : Block) (x : Cat) (own : Owners) (bs after : List Block) : Type 0 where
   pub on : StandsOn k empty_handed x after own
   pub header : header_block k.geometry after n ≡ header_block k.geometry bs n
+  pub seen : (h : Hdr) → file_in k.geometry after n h ≡ file_in k.geometry bs n h
   pub blocks : blocks_told k.geometry after n ≡ slice_set (blocks_told k.geometry bs n) (vbn - 1) b
 
 -- the write is a step, and so are the writes behind it that are steps on what it leaves
@@ -73,3 +74,8 @@ WriteGuards = (g : Geometry) (n : ℕ) (h : Hdr) (f : File) (vbn : ℕ) (b : Blo
 abbrev pub WriteLeaves : Type 0
 WriteLeaves = (g : Geometry) (n : ℕ) (h : Hdr) (f : File) (vbn : ℕ) (b : Block) (x : Cat) (bs : List Block) (own : Owners)
     → Spells g bs own x → HasBlock g x bs n h f vbn → LeavesDirs g bs (block_writes g (file_in g bs n h) vbn b)
+
+-- a header is written in the slot of the file's number alone
+abbrev pub WriteFills : Type 0
+WriteFills = (g : Geometry) (n : ℕ) (h : Hdr) (f : File) (vbn : ℕ) (b : Block) (x : Cat) (bs : List Block) (own : Owners) (took : Things)
+    → Spells g bs own x → HasBlock g x bs n h f vbn → LeavesSlots g own took (block_writes g (file_in g bs n h) vbn b)

@@ -1,18 +1,13 @@
 -- What the iterators over the runs of a file have left to yield.
-use Rattle.std.specs.Prelude.{◌++◌, List, [], Option, Some, None}
+use Rattle.std.specs.Prelude.{◌++◌, List}
 use Rattle.std.specs.List.{flat_map}
 use Rattle.fx_header.specs.declared.run.Run.{Run}
-use Rattle.fx_header.specs.declared.pointers.RunIter.{RunIter}
-use Rattle.fx_header.specs.Iter.{runs_left}
 use Rattle.vol_parts.specs.Chains.{cut}
+use Rattle.vol_parts.specs.Iter.{left_in}
 use Rattle.op_law.specs.SeenFiles.{runs_listed}
 use Rattle.op_steps.specs.declared.runs.HeaderRuns.{HeaderRuns}
 use Rattle.op_steps.specs.declared.runs.ListedRuns.{ListedRuns}
 use Rattle.op_steps.specs.declared.runs.SeenRuns.{SeenRuns}
-
-abbrev pub left_in : Option RunIter → List Run
-left_in None = []
-left_in (Some it) = runs_left it
 
 -- the runs that are left of one header
 abbrev pub header_left : HeaderRuns → List Run

@@ -1,4 +1,5 @@
 pub mod BlockWrites
+pub mod Chains
 pub mod Chained
 pub mod EntryWrites
 pub mod FileWrites
@@ -14,3 +15,4 @@ pub mod NewRows
 pub mod RemovalWrites
 pub mod RowWrites
 pub mod Seeing
+pub mod SlotWrites

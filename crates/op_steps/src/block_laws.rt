@@ -1,7 +1,7 @@
 //! The laws, each a statement for every value that it speaks of.
 
 ghost use Rattle.vol_under.specs.Chains.{anywhere};
-ghost use Rattle.op_steps.specs.BlockWrites.{BlockSteps, WriteSteps, WriteGuards, WriteLeaves};
+ghost use Rattle.op_steps.specs.BlockWrites.{BlockSteps, WriteSteps, WriteGuards, WriteLeaves, WriteFills};
 
 /// The write of a block of a file that is no directory is a step, whatever stage it leaves: at or above the file's mark it does not
 /// show, and below it, or where there is none, it shows alone. So are the writes behind it that are steps on what it leaves.
@@ -23,4 +23,9 @@ pub fn write_guards()
 /// They leave the runs of each directory.
 pub fn write_leaves()
     ensures { WriteLeaves }
+{}
+
+/// A header that is written is in the slot of the file's number.
+pub fn write_fills()
+    ensures { WriteFills }
 {}

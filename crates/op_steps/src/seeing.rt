@@ -1,10 +1,10 @@
 //! A file in use as a command has seen it: its number and its headers.
 
-ghost use Rattle.std.specs.Prelude.{◌≡◌, ◌≤◌, option_map, Some, IfSome};
+ghost use Rattle.std.specs.Prelude.{◌≡◌, option_map, Some, IfSome};
 ghost use Rattle.vol_parts.specs.declared.geometry.Geometry.{Geometry as Volume};
 ghost use Rattle.vol_spell.specs.Reading.{fields_told};
 ghost use Rattle.op_law.specs.Refusing.{seen_file, used_in};
-ghost use Rattle.op_law.specs.Readable.{HasMap, AreInside};
+ghost use Rattle.op_law.specs.Readable.{AreInside};
 ghost use Rattle.op_steps.specs.Seeing.{file_seen, IsReadableAs};
 
 use base_words::Block;
@@ -28,9 +28,7 @@ pub struct FileSeen<'a> {
 
 /// The first header of the file in use in a slot, by its block, or none where the slot has none.
 pub fn fields_told(b: &Block) -> Option<Hdr>
-    ensures header { result ≡ fields_told b.now }
-    ensures map { IfSome result (λ h. HasMap b.now) }
-    ensures few { IfSome result (λ h. AreInside b.now → h.blocks ≤ 33554432) }
+    ensures { result ≡ fields_told b.now }
 {
     match read_header(b) {
         Ok(Slot::Used(h)) => if h.seg == 0 { Some(h) } else { None },
@@ -43,8 +41,6 @@ pub fn fields_told(b: &Block) -> Option<Hdr>
 fn used_in(b: &Block, seq: u16) -> Option<Hdr>
     ensures header { result ≡ used_in seq b.now }
     ensures told { IfSome result (λ h. fields_told b.now ≡ Some h) }
-    ensures map { IfSome result (λ h. HasMap b.now) }
-    ensures few { IfSome result (λ h. AreInside b.now → h.blocks ≤ 33554432) }
 {
     let h = fields_told(b)?;
     if h.seq == seq { Some(h) } else { None }
@@ -54,7 +50,7 @@ fn used_in(b: &Block, seq: u16) -> Option<Hdr>
 pub fn file_used<'a>(fid: Fid, head: &'a Block) -> Option<FileSeen<'a>>
     requires inside { AreInside head.now }
     ensures file { (g : Volume) → option_map (file_seen g) result ≡ option_map (seen_file g fid.num head.now) (used_in fid.seq head.now) }
-    ensures readable { IfSome result (IsReadableAs fid.num) }
+    ensures readable { IfSome result (IsReadableAs fid.num head.now) }
 {
     match used_in(head, fid.seq) {
         Some(fields) => Some(FileSeen {

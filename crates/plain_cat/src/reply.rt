@@ -31,7 +31,7 @@ pub enum Refusal {
     /// The directory has entries.
     DirNotEmpty,
 
-    /// The file would have more than 77 clusters.
+    /// The file would get more than 77 clusters at once, or have more than 1,232.
     FileLimit,
 
     /// The owner has no quota row.
@@ -43,7 +43,7 @@ pub enum Refusal {
     /// No quota row is free.
     QuotaFull,
 
-    /// No file number is free.
+    /// No file number is free for a new file, or for a new header of the file.
     IndexFull,
 
     /// Too few clusters are free.

@@ -12,3 +12,4 @@ pub mod SoundSteps
 pub mod SoundAnswers
 pub mod SoundStages
 pub mod SoundMends
+pub mod Numbers

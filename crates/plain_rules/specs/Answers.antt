@@ -337,6 +337,14 @@ outcome c node (cmd.WriteBlock chan vbn text) new = write_outcome c node chan vb
 outcome c node (cmd.QuotaSet owner quota over) new = quota_set_outcome c owner quota over
 outcome c node (cmd.QuotaShow owner) new = quota_show_outcome c owner
 
+-- whether a command takes space: CREATE and MKDIR take clusters and a number for a new file, and EXTEND takes clusters and
+-- may take a number for a new header
+abbrev pub takes_space : Cmd → Bool
+takes_space (cmd.Create reg dir name ver blocks owner) = true
+takes_space (cmd.MkDir reg dir name owner) = true
+takes_space (cmd.Extend file blocks) = true
+takes_space other = false
+
 -- a free number, where a new header can have one, and else none
 abbrev pub IsPick : Cat → Option ℕ → Type 0
 IsPick c None = has_free_number c ≡ false

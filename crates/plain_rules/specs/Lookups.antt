@@ -1,5 +1,5 @@
 -- What stands in a catalogue.
-use Rattle.std.specs.Prelude.{◌==◌, ◌&&◌, ◌-◌, ◌+◌, ◌*◌, ◌/◌, ◌<◌, ◌≤◌, ◌≡◌, nat_lt, ℕ, Bool, true, false, not, List, [], ◌∷◌, Option, Some, None, slice_get, drop, filter, length, if◌then◌else◌}
+use Rattle.std.specs.Prelude.{◌==◌, ◌&&◌, ◌-◌, ◌+◌, ◌*◌, ◌/◌, nat_lt, ℕ, Bool, true, false, not, List, [], ◌∷◌, Option, Some, None, slice_get, drop, filter, length, if◌then◌else◌}
 use Rattle.std.specs.List.{sum_by, count_by, list_any, range_with_len}
 use Rattle.std.specs.Str.{bytes_eq}
 use Rattle.plain_cat.specs.declared.ids.Fid.{Fid}
@@ -130,9 +130,9 @@ is_free_number c n = is_free_slot (slot_at c n) && not (is_leaked c n)
 abbrev pub header_most : ℕ
 header_most = 77
 
--- the most clusters of a file above number 11
+-- the most clusters of a file above number 11, which has up to sixteen headers
 abbrev pub file_most : ℕ
-file_most = 77
+file_most = 1232
 
 -- How many extension headers a file of k clusters has. Its first header and each further one has up to header_most of them.
 abbrev pub extra : ℕ → ℕ
@@ -158,7 +158,3 @@ free_count c = count_by (is_free_number c) (range_with_len 1 (length c.files)) -
 -- whether a new header can have a number
 abbrev pub has_free_number : Cat → Bool
 has_free_number c = nat_lt 0 (free_count c)
-
--- each file above number 11 has one header
-abbrev pub HasSingleHeaders : Cat → Type 0
-HasSingleHeaders c = (n : ℕ) (f : File) → 11 < n → file_at c n ≡ Some f → f.clusters ≤ header_most

@@ -42,20 +42,20 @@ unfoldable pub mkdir_stage : Cat → Uic → Option ℕ → Outcome → Stage �
 mkdir_stage c owner None o s = None
 mkdir_stage c owner (Some n) o s = making_stage c n (new_dir (new_fid c n).seq owner c.factor) o s
 
--- EXTEND: the quota block, the header
+-- EXTEND: the quota block, a new header if there is one, the last header, and the first header, whose write does it
 unfoldable pub extend_stage : Cat → Option File → ℕ → Outcome → Stage → Option Cat
 extend_stage c (Some f) blocks o stage.Charged = Some (charged c f.owner (c.factor * in_clusters c blocks))
 extend_stage c (Some f) blocks o stage.Done = Some o.after
 extend_stage c f blocks o s = None
 
--- TRUNC, where clusters go: the header, the storage bitmap, the quota block
+-- TRUNC, where clusters go: the first header, which shortens the file, the other headers, the bitmaps, and the quota block
 unfoldable pub trunc_stage : Cat → ℕ → Option File → ℕ → Outcome → Stage → Option Cat
 trunc_stage c n (Some f) blocks o stage.Shortened =
     only_if (nat_lt (in_clusters c blocks) f.clusters) (with_file c n (cut c f (in_clusters c blocks)))
 trunc_stage c n (Some f) blocks o stage.Done = only_if (nat_lt (in_clusters c blocks) f.clusters) o.after
 trunc_stage c n f blocks o s = None
 
--- DELETE of a file in use: the mark unless it is there, the removal, and where no channel has the file open the header,
+-- DELETE of a file in use: the mark unless it is there, the removal, and where no channel has the file open the headers,
 -- the bitmaps and the quota block
 abbrev pub unnaming_stage : Cat → ℕ → File → DirEnt → File → Outcome → Stage → Option Cat
 unnaming_stage c dir d e f o stage.Marked = only_if (not f.marked) (with_file c e.fid.num (record f { marked = true }))
@@ -84,7 +84,7 @@ unfoldable pub rename_stage : Cat → Fid → List ℕ → ℕ → List ℕ → 
 rename_stage c dir name ver to to_ver o s = option_and_then (λ (d : File). option_and_then (λ (e : DirEnt).
     renaming_stage c dir.num d e to (new_version to_ver (versions to d.entries)) o s) (entry_of (versions name d.entries) ver)) (live c dir)
 
--- CLOSE of the last open of a marked file: the header, the bitmaps, the quota block
+-- CLOSE of the last open of a marked file: the headers, the bitmaps, the quota block
 abbrev pub closing_stage : Cat → ℕ → File → Outcome → Stage → Option Cat
 closing_stage c n f o stage.Freed = only_if (f.marked && not (is_open c n)) (freed c n f)
 closing_stage c n f o stage.Done = only_if (f.marked && not (is_open c n)) o.after

@@ -1,12 +1,11 @@
-ghost use Rattle.std.specs.Prelude.{◌≡◌, ◌≤◌, ◌+◌, ◌*◌, ℕ, true, false, length, is_none, Option};
-ghost use Rattle.std.specs.List.{count_by, range_with_len};
+ghost use Rattle.std.specs.Prelude.{◌≡◌, ◌≤◌, ◌+◌, ◌*◌, ℕ, false, is_none, Option};
 ghost use Rattle.plain_cat.specs.declared.command.Cmd.{Cmd};
 ghost use Rattle.plain_cat.specs.declared.reply.Reply.{Reply};
 ghost use Rattle.plain_cat.specs.declared.reply.Reply.TheVariants as reply;
 ghost use Rattle.plain_cat.specs.declared.reply.Refusal.{Refusal};
 ghost use Rattle.plain_cat.specs.declared.history.Entry.{Entry};
 ghost use Rattle.plain_cat.specs.declared.cat.Cat.{Cat};
-ghost use Rattle.plain_rules.specs.Lookups.{is_free_number, header_most, file_most, extra, needs_header, headers_more, free_count, has_free_number, HasSingleHeaders};
+ghost use Rattle.plain_rules.specs.Lookups.{header_most, file_most, extra, needs_header};
 ghost use Rattle.plain_rules.specs.Changes.{cost};
 ghost use Rattle.plain_rules.specs.Accounts.{death_cost};
 ghost use Rattle.plain_rules.specs.Answers.{Answer, IsPick};
@@ -31,14 +30,6 @@ pub fn answers_are_determined()
 /// Two picks of one catalogue are both a number or both none, so EXTEND, which looks at that alone, has one answer.
 pub fn picks_are_alike()
     ensures { (c : Cat) (new other : Option ℕ) → IsPick c new → IsPick c other → is_none new ≡ is_none other }
-{}
-
-/// Where each file above number 11 has one header, no number is an extension header's: as many can be taken as are free, and a
-/// new header can have a number where one is free.
-pub fn few_headers()
-    ensures none { (c : Cat) → HasSingleHeaders c → headers_more c ≡ 0 }
-    ensures count { (c : Cat) → HasSingleHeaders c → free_count c ≡ count_by (is_free_number c) (range_with_len 1 (length c.files)) }
-    ensures number { (c : Cat) → HasSingleHeaders c → (n : ℕ) → is_free_number c n ≡ true → has_free_number c ≡ true }
 {}
 
 /// A file needs no new header while one has room for it, and for the growth that one command may ask for it needs at most one.

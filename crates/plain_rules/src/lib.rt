@@ -11,8 +11,8 @@
 //!
 //! Each function gives exactly what its definition says. Laws: each command has an answer (`commands_are_answered`), and only one,
 //! but for the number of a new file (`answers_are_determined`); legal entries keep the one form of a catalogue
-//! (`legal_entries_keep_the_form`); what deaths leave is within bounds (`deaths_are_within`); where each file has one header, each
-//! free number can be taken (`few_headers`).
+//! (`legal_entries_keep_the_form`); what deaths leave is within bounds (`deaths_are_within`); a file needs at most one new header
+//! for the growth that one command may ask for (`growth_needs_few_headers`).
 //!
 //! Volumes, commands and the core take the rules from it.
 #![tactic(auto)]
@@ -32,8 +32,8 @@ pub use directories::{dir_name, entry_of, has_name, highest, inserted, look_up, 
 pub use entering::{entries_in, is_own, lost_name, with_lost_entry};
 pub use forms::is_in_form;
 pub use laws::{
-    answers_are_determined, commands_are_answered, deaths_are_within, few_headers,
-    growth_needs_few_headers, legal_entries_keep_the_form, picks_are_alike,
+    answers_are_determined, commands_are_answered, deaths_are_within, growth_needs_few_headers,
+    legal_entries_keep_the_form, picks_are_alike,
 };
 pub use lookups::{file_at, free_clusters, in_use, live, row_of, slot_at};
 pub use outcome::Outcome;

@@ -7,7 +7,7 @@ use plain_cat::Slot;
 pub(crate) const HEADER_MOST: u32 = 77;
 
 /// The most clusters of a file above number 11.
-pub(crate) const FILE_MOST: u32 = 77;
+pub(crate) const FILE_MOST: u32 = 1232;
 
 // How many extension headers a file of k clusters has.
 fn extra(k: u32) -> u32

@@ -429,7 +429,7 @@ fn a_map_without_room_changes_nothing(rt: HostRuntime) -> Result<(), Fail> {
     Ok(())
 }
 
-/// The second header (13,0,0) of a file, which names (65550,3,0) as the third one.
+/// The second header (13,0,0) of the file (12,7,0), which names (65550,3,0) as the third one.
 fn second() -> Hdr
     ensures { result ≡ record { num = 13; seq = 0; owner = 65540; dir = false; marked = false; blocks = 0; mark = 0; end = 0; byte = 0; seg = 1; ext = 65550; ext_seq = 3 } }
 {
@@ -451,11 +451,14 @@ fn second() -> Hdr
 
 #[test]
 fn an_extension_header_has_its_place_and_the_next_one(rt: HostRuntime) -> Result<(), Fail> {
-    let mut b = new_header(&second(), b"", (0, 0));
+    let mut b = new_header(&second(), b"", (12, 7));
     let front = [40, 100, 255, 255, 1, 0, 1, 2, 13, 0, 0, 0, 0, 0];
     assert_eq!(rt; &b[..14], front.as_slice());
     assert_eq!(rt; &b[14..20], [14, 0, 3, 0, 0, 1].as_slice());
-    assert_eq!(rt; &b[66..80], [0; 14].as_slice());
+    assert_eq!(rt; &b[52..56], [0; 4].as_slice());
+    assert_eq!(rt; &b[60..64], [4, 0, 1, 0].as_slice());
+    assert_eq!(rt; &b[66..72], [12, 0, 7, 0, 0, 0].as_slice());
+    assert_eq!(rt; &b[72..80], [0; 8].as_slice());
     assert_eq!(rt; &b[80..100], [b' '; 20].as_slice());
     assert_eq!(rt; &b[134..200], [b' '; 66].as_slice());
     assert_eq!(rt; read_header(&b), Ok(Slot::Used(second())));

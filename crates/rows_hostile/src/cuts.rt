@@ -153,6 +153,14 @@ const SOAK: &str = "NODES 4\n\
     3 DELETE MFD F9.DAT;0\n\
     4 LIST MFD\n";
 
+/// A file gets a second and a third header, loses the third, and goes.
+const HEADERS: &str = "NODES 1\n\
+    1 CREATE R1 MFD A.TXT;0 308 [1,4]\n\
+    1 EXTEND R1 308\n\
+    1 EXTEND R1 4\n\
+    1 TRUNC R1 312\n\
+    1 DELETE MFD A.TXT;0\n";
+
 const RUN: &[&str] = &["run"];
 
 const MENDING: &[&str] = &["run", "--rebuild"];
@@ -174,6 +182,14 @@ const RUNS: &[Job] = &[
         answers: &[],
         stops: false,
         whole: (RUN, SOAK),
+        writes: 28,
+    },
+    Job {
+        words: RUN,
+        script: HEADERS,
+        answers: &[],
+        stops: false,
+        whole: (RUN, HEADERS),
         writes: 28,
     },
 ];

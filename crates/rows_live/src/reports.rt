@@ -6,7 +6,8 @@ use live_run::{OpenGate, vmsclus_live};
 use log_check::check_log;
 use plain_cat::NoMemory;
 use rows_calls::{
-    Called, Exchange, Stop, Wrong, answered, check_about, expect, failing, text_of, volume,
+    Called, Exchange, Stop, Wrong, answered, check_about, expect, failing, image_of, made, text_of,
+    volume,
 };
 use std::alloc::Global;
 use std::sync::Wait;
@@ -54,17 +55,21 @@ fn live<R: Threads + Wait + Sync>(
     })
 }
 
-// The report has to be a legal history from the fresh volume to the one that is left, and nothing may be found in this.
-fn judged(alloc: Global, called: Called) -> Result<(), Wrong> {
+// The report has to be a legal history from a volume to the one that is left, and nothing may be found in this.
+fn judged_from(alloc: Global, before: MemImage, called: Called) -> Result<(), Wrong> {
     expect(alloc, called.code == 0, text_of(&called))?;
     let mut log = source(alloc, called.out.bytes())?;
     let mut verdict = MemOut::new(alloc, 1000, Vec::new(alloc))?;
-    let before = volume(alloc)?;
     let checking = check_log(alloc, &[], before, called.image, &mut log, &mut verdict);
     let text = str::from_utf8(called.out.bytes()).unwrap_or("no text");
     expect(alloc, checking.status.code() == 0, text)?;
     answered(alloc, checking.after, Exchange::finds("accepted\n"))?;
     Ok(())
+}
+
+// The same from the fresh volume.
+fn judged(alloc: Global, called: Called) -> Result<(), Wrong> {
+    judged_from(alloc, volume(alloc)?, called)
 }
 
 const FACTS: &str = "NODES 1\n\
@@ -136,6 +141,38 @@ fn eight_threads_fifty_times(rt: HostRuntime) -> Result<(), Fail> {
     for _ in 0..50usize {
         let called = live(&rt, alloc, "live", volume(alloc)?, SOAK)?;
         judged(alloc, called)?;
+    }
+    Ok(())
+}
+
+const LARGEST: &str = "NODES 1\n1 CREATE R1 MFD A.TXT;0 308 [1,4]\n";
+
+const LARGEST_REPORT: &str =
+    "1 N1 CREATE R1 (4,4,0) A.TXT;0 308 [1,4] = (12,1,0) A.TXT;1\nend: 1 answered, 0 died, 154 free\n";
+
+const HEADERS: &str = "NODES 8\n\
+    1 EXTEND (12,1,0) 4\n\
+    2 EXTEND (12,1,0) 308\n\
+    3 TRUNC (12,1,0) 300\n\
+    4 EXTEND (12,1,0) 40\n\
+    5 TRUNC (12,1,0) 304\n\
+    5 EXTEND (12,1,0) 60\n\
+    6 STAT (13,0,0)\n\
+    6 EXTEND (12,1,0) 8\n\
+    7 CREATE R1 MFD B.TXT;0 4 [1,4]\n\
+    7 OPEN 1 (12,1,0) CR\n\
+    8 DELETE MFD A.TXT;0\n\
+    8 CREATE R1 MFD C.TXT;0 0 [1,4]\n";
+
+// Eight threads give headers to one file and take them, in any order, until one deletes it.
+#[test]
+fn headers_come_and_go_in_any_order(rt: HostRuntime) -> Result<(), Fail> {
+    let alloc = rt.alloc();
+    let image = made(alloc, volume(alloc)?, LARGEST, LARGEST_REPORT)?;
+    for _ in 0..10usize {
+        let before = image_of(alloc, image.all(), None)?;
+        let begun = image_of(alloc, image.all(), None)?;
+        judged_from(alloc, before, live(&rt, alloc, "live", begun, HEADERS)?)?;
     }
     Ok(())
 }

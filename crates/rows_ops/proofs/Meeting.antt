@@ -1,5 +1,5 @@
 -- What a command alone on the blocks of a volume has seen, as its needs are met.
-use Rattle.std.proofs.Common.{◌≡◌, ◌≤◌, ◌∙◌, ℕ, true, List, [], ◌∷◌, ◌++◌, Option, Some, None, slice_get, length, refl, sym, ap, subst, arith, length-append}
+use Rattle.std.proofs.Common.{◌≡◌, ◌≤◌, ◌∙◌, ℕ, Bool, true, List, [], ◌∷◌, ◌++◌, Option, Some, None, slice_get, length, refl, sym, ap, subst, arith, length-append}
 use Rattle.std.specs.Prelude.{◌&&◌, ◌<◌, All, if◌then◌else◌}
 use Rattle.std.specs.List.{list_all}
 use Rattle.std.proofs.lemmas.List.Sums.{list_all-from_AllPass}
@@ -10,6 +10,7 @@ use Rattle.plain_cat.specs.declared.mode.Mode.{Mode}
 use Rattle.plain_cat.specs.declared.command.Cmd.{Cmd}
 use Rattle.plain_cat.specs.declared.cat.Cat.{Cat}
 use Rattle.plain_cat.specs.declared.cat.QuotaRow.{QuotaRow}
+use Rattle.plain_cat.specs.declared.reply.Refusal.{Refusal}
 use Rattle.plain_rules.specs.Accounts.{IsCharged, Accounted}
 use Rattle.base_words.specs.Lists.{StandsIn}
 use Rattle.vol_spell.specs.Owners.{Owners, nothing, Outs}
@@ -23,7 +24,7 @@ use Rattle.op_law.specs.declared.need.Need.TheVariants as need
 use Rattle.op_law.specs.declared.seen.Seen.{Seen}
 use Rattle.op_law.specs.Events.{space_of, HasNoSpace}
 use Rattle.op_law.specs.Needs.{need_of, IsNext}
-use Rattle.op_law.specs.Knows.{channel_of, has_channel, is_new_number, wanted, is_short, may_ask, changes_usage, is_charged, knows}
+use Rattle.op_law.specs.Knows.{channel_of, has_channel, is_new_number, wanted, is_short, may_ask, changes_usage, is_charged, usages_fit, opens_hold, knows}
 use Rattle.op_law.specs.Fits.{things, FitsOn, FitsSeen}
 use Rattle.op_law.specs.Going.{with_lock, with_block, IsLookAt}
 use Rattle.rows_ops.specs.Alone.{IsSeenAlone, needs_met, IsMet, Begins}
@@ -91,13 +92,19 @@ stands_more : (bs : List Block) (seen : List (ℕ × Block)) (l : ℕ) (b : Bloc
 stands_more bs [] l b stands at = (at, tt)
 stands_more bs (s ∷ seen) l b stands at = (stands.0, stands_more bs seen l b stands.1 at)
 
-pub looked : (x : Cmd) (seen : Seen) (bs : List Block) (lbn : ℕ) (b : Block) → Lawful x → FitsOn x seen bs → IsLookAt lbn (need_of x seen) → slice_get bs lbn ≡ Some b → FitsOn x (with_block lbn b seen) bs
-looked x seen bs lbn b law f is at = record {
+-- where no space was refused, one block more changes nothing of what is known
+known_more : (node : ℕ) (x : Cmd) (seen : Seen) (c : Cat) (lbn : ℕ) (b : Block) → seen.short ≡ None → knows node x seen c ≡ true → knows node x (with_block lbn b seen) c ≡ true
+known_more node x seen c lbn b none known = ap (by_refusal (with_block lbn b seen)) none ∙ (sym (ap (by_refusal seen) none) ∙ known) where
+  by_refusal : Seen → Option Refusal → Bool
+  by_refusal s r = has_channel c node (channel_of x) seen.channel && (is_new_number seen.number && (is_short c (wanted s x) r && (usages_fit c x && opens_hold c x)))
+
+pub looked : (x : Cmd) (seen : Seen) (bs : List Block) (lbn : ℕ) (b : Block) → Lawful x → FitsOn x seen bs → seen.short ≡ None → IsLookAt lbn (need_of x seen) → slice_get bs lbn ≡ Some b → FitsOn x (with_block lbn b seen) bs
+looked x seen bs lbn b law f none is at = record {
   order = (seen_goes_on x law.searches).looked seen lbn b f.order is;
   node = f.node;
   own = f.own;
   cat = f.cat;
-  on = record { spelt = f.on.spelt; stands = stands_more bs seen.blocks lbn b f.on.stands at; stock = f.on.stock; outs = f.on.outs; known = f.on.known };
+  on = record { spelt = f.on.spelt; stands = stands_more bs seen.blocks lbn b f.on.stands at; stock = f.on.stock; outs = f.on.outs; known = known_more f.node x seen f.cat lbn b none f.on.known };
 }
 
 -- ---- a command alone
@@ -119,7 +126,7 @@ locked_alone x bs seen name mode law a is = record {
 
 pub looked_alone : (x : Cmd) (bs : List Block) (seen : Seen) (lbn : ℕ) (b : Block) → Lawful x → IsSeenAlone x bs seen → IsLookAt lbn (need_of x seen) → slice_get bs lbn ≡ Some b → IsMet x bs seen (with_block lbn b seen)
 looked_alone x bs seen lbn b law a is at = record {
-  alone = record { fits = looked x seen bs lbn b law a.fits is at; channel = a.channel; none = a.none };
+  alone = record { fits = looked x seen bs lbn b law a.fits a.none.short is at; channel = a.channel; none = a.none };
   more = (let e = length-append seen.blocks ((lbn, b) ∷ []) in omega arith);
 }
 
@@ -130,8 +137,8 @@ look_within x bs seen name lbn law a is = (law.needs a.fits.node seen bs a.fits.
 pub bare_within : (x : Cmd) (bs : List Block) (seen : Seen) (lbn : ℕ) → Lawful x → IsSeenAlone x bs seen → IsNext x seen (need.Bare lbn) → lbn < length bs
 bare_within x bs seen lbn law a is = (law.needs a.fits.node seen bs a.fits.own a.fits.cat (need.Bare lbn) a.fits.order a.fits.on is).within
 
--- it has met at most 74 needs
-pub few_met : (x : Cmd) (bs : List Block) (seen : Seen) → Lawful x → IsSeenAlone x bs seen → needs_met seen ≤ 74
+-- it has met at most 89 needs
+pub few_met : (x : Cmd) (bs : List Block) (seen : Seen) → Lawful x → IsSeenAlone x bs seen → needs_met seen ≤ 89
 few_met x bs seen law a =
     let brief = law.brief a.fits.node seen bs a.fits.own a.fits.cat a.fits.order a.fits.on in
     let locks = brief.locks in

@@ -25,6 +25,11 @@ pub record IsSeenAlone (cmd : Cmd) (bs : List Block) (seen : Seen) : Type 0 wher
   pub channel : seen.channel ≡ None
   pub none : HasNoSpace (space_of seen)
 
+-- what a command of a channel has seen fits it on these blocks, and no space was refused
+pub record IsSeenOpen (cmd : Cmd) (bs : List Block) (seen : Seen) : Type 0 where
+  pub fits : FitsOn cmd seen bs
+  pub short : seen.short ≡ None
+
 -- Why a command alone makes no plan: a fatal finding holds; the quotas of the catalogue that the blocks tell are not in order; or
 -- it comes to a search for space.
 pub data HasNoPlan (cmd : Cmd) (bs : List Block) : Type 0 where

@@ -86,8 +86,8 @@ pub fn run_alone<O: Operation>(
     let Some(mut seen) = begin(alloc, op, blocks)? else {
         return Ok(None);
     };
-    // at most 4 locks and 70 blocks, and the plan
-    for _ in 0..75u32 {
+    // at most 19 locks and 70 blocks, and the plan
+    for _ in 0..90u32 {
         match op.next(alloc, &seen)? {
             Need::Lock(name, mode) => lock(op, blocks, &mut seen, name, mode)?,
             Need::Block(_, lbn) => look(op, blocks, &mut seen, lbn)?,

@@ -8,8 +8,8 @@ ghost use Rattle.vol_faults.specs.Conditions.{IsSize};
 ghost use Rattle.op_law.specs.Knows.{channel_of};
 ghost use Rattle.plain_rules.specs.Opens.{is_plain_file};
 ghost use Rattle.op_law.specs.Needs.{need_of, IsNext};
-ghost use Rattle.op_law.specs.Fits.{FitsOn};
 ghost use Rattle.op_law.specs.Going.{IsLookAt};
+ghost use Rattle.rows_ops.specs.Alone.{IsSeenOpen};
 ghost use Rattle.op_law.specs.Laws.{Lawful};
 
 use base_words::Block;
@@ -43,7 +43,7 @@ fn begin<O: Operation>(
     requires of { channel_of (O.cmd_is op.now) ≡ Some 1 }
     requires size { IsSize (length blocks.now) }
     requires mode { nat_lt 0 (rank channel.mode) ≡ true }
-    ensures { IfOk result (λ s. IfSome s (λ seen. FitsOn (O.cmd_is op.now) seen blocks.now)) }
+    ensures { IfOk result (λ s. IfSome s (λ seen. IsSeenOpen (O.cmd_is op.now) blocks.now seen)) }
 {
     let Some(cat) = read_volume(alloc, blocks)? else {
         return Ok(None);
@@ -78,9 +78,9 @@ fn lock<O: Operation>(
     mode: Mode,
 ) -> Result<(), NoMemory>
     requires lawful { Lawful (O.cmd_is op.now) }
-    requires fits { FitsOn (O.cmd_is op.now) seen.old blocks.now }
+    requires fits { IsSeenOpen (O.cmd_is op.now) blocks.now seen.old }
     requires need { IsNext (O.cmd_is op.now) seen.old (Need.Lock name mode) }
-    ensures { OnOk result (FitsOn (O.cmd_is op.now) seen.new blocks.now) }
+    ensures { OnOk result (IsSeenOpen (O.cmd_is op.now) blocks.now seen.new) }
 {
     seen.locks.push((name, mode))?;
     Ok(())
@@ -89,10 +89,10 @@ fn lock<O: Operation>(
 // The block of an LBN is looked at.
 fn look<O: Operation>(op: &O, blocks: &[Block], seen: &mut Seen, lbn: u32) -> Result<(), NoMemory>
     requires lawful { Lawful (O.cmd_is op.now) }
-    requires fits { FitsOn (O.cmd_is op.now) seen.old blocks.now }
+    requires fits { IsSeenOpen (O.cmd_is op.now) blocks.now seen.old }
     requires need { IsLookAt lbn (need_of (O.cmd_is op.now) seen.old) }
     requires within { lbn < length blocks.now }
-    ensures { OnOk result (FitsOn (O.cmd_is op.now) seen.new blocks.now) }
+    ensures { OnOk result (IsSeenOpen (O.cmd_is op.now) blocks.now seen.new) }
 {
     seen.blocks.push((lbn, blocks[lbn as usize]))?;
     Ok(())
@@ -113,8 +113,8 @@ pub fn run_on_channel<O: Operation>(
     let Some(mut seen) = begin(alloc, op, blocks, channel)? else {
         return Ok(None);
     };
-    // at most 4 locks and 70 blocks, and the plan
-    for _ in 0..75u32 {
+    // at most 19 locks and 70 blocks, and the plan
+    for _ in 0..90u32 {
         match op.next(alloc, &seen)? {
             Need::Lock(name, mode) => lock(op, blocks, &mut seen, name, mode)?,
             Need::Block(_, lbn) if (lbn as usize) < blocks.len() => look(

@@ -20,7 +20,7 @@ const ON_THE_VOLUME: &[Row<'static>] = &[
 
 /// [1,4] has used 199 blocks of its 200.
 const ON_THE_USED: &[Row<'static>] = &[
-    ("1 EXTEND (14,1,0) 153", "", "refused FileLimit"),
+    ("1 EXTEND (14,1,0) 155", "", "refused FileLimit"),
     ("1 EXTEND (14,1,0) 1", "", "refused ExQuota"),
 ];
 

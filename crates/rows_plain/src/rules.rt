@@ -16,7 +16,7 @@ mod sizes;
 /// Commands of node 1 on a fresh volume, after which so many clusters are free.
 const ROWS: [(&str, &[Step], u32); 9] = [
     ("in clusters", &sizes::ONE_FILE, 228),
-    ("at most 77", &sizes::LARGEST_FILE, 154),
+    ("several headers", &sizes::SEVERAL_HEADERS, 154),
     ("refusals of EXTEND", &sizes::REFUSED_GROWTH, 0),
     ("versions", &directories::VERSIONS, 231),
     ("directory", &directories::EMPTY_DIRECTORY, 230),

@@ -1,7 +1,7 @@
 //! Runs whose nodes wait for one another come to their end.
 
 use plain_cat::NoMemory;
-use rows_calls::{Exchange, On, Row, Step, Wrong, after, answered, play, volume};
+use rows_calls::{Exchange, On, Row, Step, Wrong, after, answered, play, volume, zeros};
 use std::alloc::Global;
 use std::test::Fail;
 
@@ -46,12 +46,13 @@ fn crowded(alloc: Global, seed: u32, times: u32) -> Result<Vec<u8>, NoMemory> {
 // File 12 is made.
 const MADE: &str = "NODES 1\n1 CREATE R1 MFD A.TXT;0 0 [1,4]\n";
 
-// A run of such a script ends with all its answers. File 12 grows to its 77 clusters.
+// A run of such a script ends with all its answers. File 12 grows by a cluster 256 times, but where none is free, and at last it has all
+// 231: each node extends it once more behind its last removal.
 fn crowd(alloc: Global, seed: u32) -> Result<(), Wrong> {
     let image = after(alloc, volume(alloc)?, &["run"], MADE, 0, ("", ""))?;
     let script = crowded(alloc, seed, 16)?;
     let text = str::from_utf8(script.as_slice()).unwrap_or("");
-    let ends = ("", "\nend: 512 answered, 0 died, 154 free\n");
+    let ends = ("", "\nend: 512 answered, 0 died, 0 free\n");
     let image = after(alloc, image, &["run"], text, 0, ends)?;
     answered(alloc, image, Exchange::finds("accepted\n"))?;
     Ok(())
@@ -61,6 +62,92 @@ fn crowd(alloc: Global, seed: u32) -> Result<(), Wrong> {
 fn eight_nodes_in_one_directory(rt: HostRuntime) -> Result<(), Fail> {
     for seed in 0..21u32 {
         crowd(rt.alloc(), seed)?;
+    }
+    Ok(())
+}
+
+// So many times the same line.
+fn repeated(times: u32, line: &str, script: &mut Vec<u8>) -> Result<(), NoMemory> {
+    for _time in 0..times {
+        script.extend_from_slice(line.as_bytes())?;
+    }
+    Ok(())
+}
+
+// A file with all 1,232 clusters that it may have, in sixteen headers: made and extended fifteen times.
+fn sixteen(alloc: Global, node: u32, name: u32, script: &mut Vec<u8>) -> Result<(), NoMemory> {
+    let first = format!(in alloc; "{node} CREATE R1 MFD F{name}.TXT;0 77 [1,4]\n")?;
+    script.extend_from_slice(first.as_bytes())?;
+    let more = format!(in alloc; "{node} EXTEND R1 77\n")?;
+    repeated(15, more.as_str(), script)
+}
+
+// 32 commands of a node. It makes a file of sixteen headers, writes and reads in the last one and reads in the second one; reads in the last
+// header of file 12, and cuts a header off that and adds one; and cuts its own file, extends it, and removes one of that name. Nodes 1
+// and 2 have one name, 3 and 4 another, and so on.
+fn round(alloc: Global, node: u32, script: &mut Vec<u8>) -> Result<(), NoMemory> {
+    let name = node / 2 + node % 2;
+    sixteen(alloc, node, name, script)?;
+    let own = format!(in alloc;
+        "{node} OPEN 1 R1 PW\n{node} WRITE 1 1232 TAIL\n{node} READ 1 1232\n{node} READ 1 78\n{node} CLOSE 1\n"
+    )?;
+    script.extend_from_slice(own.as_bytes())?;
+    let shared = format!(in alloc;
+        "{node} OPEN 2 (12,1,0) CR\n{node} READ 2 1232\n{node} EXTEND (12,1,0) 1\n{node} TRUNC (12,1,0) 1155\n{node} EXTEND (12,1,0) 77\n{node} CLOSE 2\n"
+    )?;
+    script.extend_from_slice(shared.as_bytes())?;
+    let last = format!(in alloc;
+        "{node} TRUNC R1 1000\n{node} EXTEND R1 77\n{node} STAT R1\n{node} TRUNC R1 0\n{node} DELETE MFD F{name}.TXT;0\n"
+    )?;
+    script.extend_from_slice(last.as_bytes())
+}
+
+// A script of eight nodes with sixteen such rounds each.
+fn rounds(alloc: Global, seed: u32) -> Result<Vec<u8>, NoMemory> {
+    let mut script = Vec::from_slice(alloc, b"NODES 8\n")?;
+    plays(alloc, seed, &mut script)?;
+    for _time in 0..16u8 {
+        for node in 1..9u32 {
+            round(alloc, node, &mut script)?;
+        }
+    }
+    Ok(script)
+}
+
+// The script that makes file 12, with room for all in the quota.
+fn shared_file(alloc: Global) -> Result<Vec<u8>, NoMemory> {
+    let mut script = Vec::from_slice(alloc, b"NODES 1\n1 QUOTASET [1,4] 65536 0\n")?;
+    sixteen(alloc, 1, 0, &mut script)?;
+    Ok(script)
+}
+
+// A run of the rounds ends with all its answers. Each node's last word about file 12 is to add a header where there is room, so it has
+// sixteen at the end, and all other files are gone.
+fn headers(alloc: Global, seed: u32) -> Result<(), Wrong> {
+    let words = &["init", "1", "256", "WIDE"];
+    let image = after(alloc, zeros(alloc, 16_384)?, words, "", 0, ("", ""))?;
+    let first = shared_file(alloc)?;
+    let text = str::from_utf8(first.as_slice()).unwrap_or("");
+    let image = after(
+        alloc,
+        image,
+        &["run"],
+        text,
+        0,
+        ("", "\nend: 17 answered, 0 died, 14883 free\n"),
+    )?;
+    let script = rounds(alloc, seed)?;
+    let text = str::from_utf8(script.as_slice()).unwrap_or("");
+    let ends = ("", "\nend: 4096 answered, 0 died, 14883 free\n");
+    let image = after(alloc, image, &["run"], text, 0, ends)?;
+    answered(alloc, image, Exchange::finds("accepted\n"))?;
+    Ok(())
+}
+
+#[test]
+fn eight_nodes_with_files_of_sixteen_headers(rt: HostRuntime) -> Result<(), Fail> {
+    for seed in 0..4u32 {
+        headers(rt.alloc(), seed)?;
     }
     Ok(())
 }

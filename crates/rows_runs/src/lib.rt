@@ -22,6 +22,8 @@ mod endings;
 #[cfg(test)]
 mod faults;
 #[cfg(test)]
+mod headers;
+#[cfg(test)]
 mod making;
 #[cfg(test)]
 mod queues;

@@ -265,6 +265,46 @@ fn a_line_has_a_limit(rt: HostRuntime) -> Result<(), Fail> {
     Ok(())
 }
 
+/// A file of 78 blocks, of which the second header lists the last one.
+const TWO_HEADERS: &str = "NODES 1\n\
+    1 CREATE R1 MFD A.TXT;0 77 [1,4]\n\
+    1 EXTEND R1 1\n";
+
+const TWO_HEADERS_REPORT: &str = "1 N1 CREATE R1 (4,4,0) A.TXT;0 77 [1,4] = (12,1,0) A.TXT;1\n\
+    2 N1 EXTEND (12,1,0) 1 = 78 blocks\n\
+    end: 2 answered, 0 died, 104 free\n";
+
+// A line of as many letters as a line may have, and one of so many.
+fn long_lines(alloc: Global, count: usize) -> Result<Vec<u8>, NoMemory> {
+    let mut first = letters(alloc, b"", 32_767)?;
+    first.push(b'\n')?;
+    letters(alloc, first.as_slice(), count)
+}
+
+// What is printed of the records of these lines.
+fn lines_printed(alloc: Global, lines: &[u8]) -> Result<String, NoMemory> {
+    let mut text = String::from_str(alloc, str::from_utf8(lines).unwrap_or(""))?;
+    text.push_str("\n2 records\n")?;
+    Ok(text)
+}
+
+#[test]
+fn a_record_goes_on_in_the_next_header(rt: HostRuntime) -> Result<(), Fail> {
+    let alloc = rt.alloc();
+    let made = Exchange::run(TWO_HEADERS, 0, TWO_HEADERS_REPORT);
+    let image = answered(alloc, On::Small.image(alloc)?, made)?;
+    let image = answered(alloc, image, Exchange::finds("accepted\n"))?;
+    let more = long_lines(alloc, 7_165)?;
+    let image = stored(alloc, image, more.as_slice(), 11, "no room\n")?;
+    let lines = long_lines(alloc, 7_164)?;
+    let told = "stored 2 records, 39936 bytes\n";
+    let image = stored(alloc, image, lines.as_slice(), 0, told)?;
+    let image = answered(alloc, image, Exchange::finds("accepted\n"))?;
+    let printed = lines_printed(alloc, lines.as_slice())?;
+    answered(alloc, image, Exchange::worded(RECORDS, 0, printed.as_str()))?;
+    Ok(())
+}
+
 #[test]
 fn a_text_has_a_limit(rt: HostRuntime) -> Result<(), Fail> {
     let alloc = rt.alloc();

@@ -1,5 +1,6 @@
 //! Each write of a run fails in turn: what is told of it, and what the image has then.
 
+use crate::headers::TWO;
 use base_words::Block;
 use blk_drive::MemImage;
 use rows_calls::{
@@ -226,7 +227,8 @@ fn each_write_of_a_change_fails(rt: HostRuntime) -> Result<(), Fail> {
     Ok(())
 }
 
-/// On volumes with files: one made elsewhere, whose directory has two blocks, and one with a directory of three.
+/// On volumes with files: one made elsewhere, whose directory has two blocks; one with a directory of three; and one with a file of two
+/// headers, which gets a third one in six writes, loses both in six, and goes in six.
 const ON_FILES: &[(Row<'static>, &str, u64)] = &[
     (
         Row {
@@ -245,6 +247,11 @@ const ON_FILES: &[(Row<'static>, &str, u64)] = &[
         },
         BEFORE,
         7,
+    ),
+    (
+        TWO,
+        "NODES 1\n1 EXTEND (12,1,0) 308\n1 TRUNC (12,1,0) 4\n1 DELETE MFD A.TXT;0\n",
+        20,
     ),
 ];
 

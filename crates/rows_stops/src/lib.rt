@@ -18,9 +18,13 @@ mod each_death;
 #[cfg(test)]
 mod each_write;
 #[cfg(test)]
+mod headers;
+#[cfg(test)]
 mod rebuilding;
 #[cfg(test)]
 mod run_rebuilding;
+#[cfg(test)]
+mod scenes;
 #[cfg(test)]
 mod stocks;
 #[cfg(test)]

@@ -219,7 +219,7 @@ const BEFORE: [(usize, usize, u8, &str); 13] = [
     (20, 202, 48, "shared cluster 24\n"),
 ];
 
-/// Those that go on behind file 12 with too many clusters.
+/// Those that go on behind file 12 with 78 clusters.
 const BEHIND: [(usize, usize, u8, &str); 7] = [
     (20, 202, 51, "runs of 12\n"),
     (29, 4, 2, "chain of 12: Broken\n"),
@@ -230,7 +230,7 @@ const BEHIND: [(usize, usize, u8, &str); 7] = [
     (1, 496, b'd', "home: BadFormat\n"),
 ];
 
-/// File 12 with 78 clusters: 77 are in its first header, and one is in a second one, number 21.
+/// File 12 with 78 clusters, most of which it has three times: 77 are in its first header, and one is in a second one, number 21.
 fn put_thrice(b: &mut [Block; 64]) {
     put_word(&mut b[20], 14, 21);
     put_word(&mut b[20], 16, 1);
@@ -260,8 +260,8 @@ fn the_first_fatal_finding_is_told_alone(rt: HostRuntime) -> Result<(), Fail> {
     }
     put_thrice(&mut b);
     assert!(rt;
-        are_told(alloc, &b, b"clusters of 12\n")?,
-        "the clusters of file 12, which are too many, are told alone"
+        are_told(alloc, &b, b"shared cluster 0\n")?,
+        "the first cluster of file 12, which it has three times, is told alone"
     );
     for (lbn, at, byte, text) in &BEHIND {
         change(&mut b, *lbn, *at, *byte);

@@ -217,7 +217,8 @@ fn is_first(alloc: Global, changes: &[Change], text: &str) -> Result<bool, NoMem
 /// A file 12 in cluster 42 and in cluster 63, marked, whose bitmaps are put right one after another.
 const TWELVE: Change = Change::Header(16, 12, 1, MARKED, (42, 1), (63, 1));
 
-/// A file 12 of 78 clusters: its first header has 77 of them, and its second one, number 13, the last.
+/// A file 12 of 78 clusters: its first header has 77 of them, and its second one, number 13, the last. It is well split, but lists clusters
+/// twice.
 const SPLIT: &[Change] = &[
     Change::Header(16, 12, 1, 0, (0, 39), (0, 38)),
     Change::Word(16, 14, 13),
@@ -265,7 +266,7 @@ const ROWS: [(&[Change], &str); 16] = [
         &[Change::Header(16, 12, 1, 0, (0, 39), (0, 39))],
         "chain of 12: BadSplit",
     ),
-    (SPLIT, "clusters of 12"),
+    (SPLIT, "shared cluster 0"),
     (
         &[Change::Header(16, 12, 1, MARKED, (41, 3), NO_RUN)],
         "shared cluster 41",

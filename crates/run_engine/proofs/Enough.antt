@@ -6,6 +6,7 @@ use Rattle.core_state.specs.Worlds.{Plain}
 use Rattle.core_state.specs.Goods.{Good, IsAccepted}
 use Rattle.core_state.specs.Deaths.{after_step}
 use Rattle.core_state.specs.Events.{is_over}
+use Rattle.core_ends.specs.Measure.{command_steps}
 use Rattle.core_ends.specs.Turns.{ahead, ComesNext, IsEnough, turns_of}
 use Rattle.core_ends.proofs.Rounding.{turns_are_enough, steps_take_one, none_is_left, low_ahead, high_ahead}
 use Rattle.run_engine.specs.Walks.{first_from, or_first, next_from, budget_of, played, Stays}
@@ -80,7 +81,7 @@ comes_next w from n low top next = record { alive = next_alive w from (Some n) l
 
 budget_is : (w : Plain) → budget_of w ≡ turns_of w
 unfolding budget_of
-budget_is w = mul_right_comm 2048 (length w.nodes) (length w.script.lines + length w.nodes)
+budget_is w = mul_right_comm command_steps (length w.nodes) (length w.script.lines + length w.nodes)
 
 -- at first they are enough
 pub enough_at_first : (w : Plain) (budget : ℕ) → budget ≡ budget_of w → Good w → IsAccepted w.opening → IsEnough (budget - 0) w 1
@@ -107,7 +108,7 @@ unfolding budget_of
 budget_stays old new same =
     let nodes : length new.nodes ≡ length old.nodes = same.count in
     let lines : length new.script.lines ≡ length old.script.lines = ap (λ s. length s.lines) same.script in
-    sym (λ i. 2048 * nodes i * (lines i + nodes i))
+    sym (λ i. command_steps * nodes i * (lines i + nodes i))
 
 pub budget_played : (old mid : Plain) (ns : List ℕ) → mid ≡ played ns old → budget_of old ≡ budget_of mid
 budget_played old mid ns at = subst (λ v. budget_of old ≡ budget_of v) (sym at) (budget_stays old (played ns old) (plays_stay ns old))

@@ -8,6 +8,7 @@ use Rattle.core_state.specs.Deaths.{is_due, after_step}
 use Rattle.core_state.specs.Events.{is_over, is_write, next_event}
 use Rattle.core_state.specs.Uses.{UsesTheDrives}
 use Rattle.core_step.specs.Memory.{takes_none}
+use Rattle.core_ends.specs.Measure.{command_steps}
 
 -- ---- plays
 
@@ -87,7 +88,7 @@ WalkUsesTheDrives old plays = (w : Plain) (n : ℕ) → IsPartOfWalk old plays w
 
 -- for how many turns in rotation a run goes on at most
 unfoldable pub budget_of : Plain → ℕ
-budget_of w = 2048 * length w.nodes * (length w.script.lines + length w.nodes)
+budget_of w = command_steps * length w.nodes * (length w.script.lines + length w.nodes)
 
 -- ---- whose turn comes
 

@@ -17,9 +17,12 @@ use blk_drive::ImageDev;
 use core_death::seat_event;
 use core_state::World;
 use core_step::TurnFault;
-use op_law::Operation;
+use op_law::{FILE_MOST, Operation};
 use plain_cat::Plays;
 use std::alloc::Global;
+
+// More than all events of a command: a write has the most writes, up to one zero fewer than a file has blocks, the block, and the header.
+const COMMAND_STEPS: usize = 16 * FILE_MOST as usize + 768;
 
 // For how many turns in rotation a run goes on at most: no run needs more.
 #[tactic(auto, unfolding(crate::specs::Walks::budget_of))]
@@ -29,7 +32,7 @@ fn budget_of<I: ImageDev, O: Operation>(w: &World<I, O>) -> u32
     w.keeps_the_rules();
     let nodes = nodes_of(w) as usize;
     let commands = w.script().lines.items().len();
-    (2_048 * nodes * (commands + nodes)) as u32
+    (COMMAND_STEPS * nodes * (commands + nodes)) as u32
 }
 
 // A play of a node: its turn, or the death in its place, if it is not over.
@@ -84,7 +87,7 @@ fn play_all<I: ImageDev, O: Operation>(
 /// Runs the script of a world to its end: first one turn for each play of the schedule, then turns in rotation from node 1. A
 /// node that is over makes no turn: its play has no effect, and the rotation passes over it. A run ends once every node is over.
 ///
-/// The plays are nodes from 1 to the last. The rotation makes at most 2,048 × nodes × (commands + nodes) turns, after which every
+/// The plays are nodes from 1 to the last. The rotation makes at most `COMMAND_STEPS` × nodes × (commands + nodes) turns, after which every
 /// node is over. After a fault the world is as it was before the turn that failed.
 /// `ImageFault` comes only in place of a write of the node whose turn it is, and where the image has counted a fault: an image that
 /// told the blocks of the drive has then those from before that turn, or those that it would have left. `NoMemory` comes only where

@@ -1,4 +1,4 @@
-//! Runs that are no whole clusters of the volume, and files with more clusters than a header has room for.
+//! Runs that are no whole clusters of the volume, and files with more clusters than sixteen headers have room for.
 
 ghost use Rattle.std.specs.Prelude.{◌≡◌, ◌-◌, IfNone};
 ghost use Rattle.std.specs.List.{list_any};
@@ -71,14 +71,14 @@ pub fn first_run_off(home: &Home, blocks: &[Block]) -> Option<Finding>
     Some(Finding::Runs(lowest_with_run_off(home, blocks)?))
 }
 
-/// Whether a file has more than 77 clusters.
+/// Whether a file has more than 1,232 clusters.
 fn is_too_large(home: &Home, blocks: &[Block], n: u32) -> bool
     requires limits { IsWithinLimits home.now }
     requires number { IsNumber (volume home.now blocks.now) n }
     ensures { let v = volume home.now blocks.now in result ≡ is_too_large v (fields v n) }
 {
     match fields(home, blocks, n) {
-        Some(f) => f.blocks / u32::from(home.cluster) > 77,
+        Some(f) => f.blocks / u32::from(home.cluster) > 1232,
         None => false,
     }
 }
@@ -95,7 +95,7 @@ fn lowest_large_file(home: &Home, blocks: &[Block]) -> Option<u32>
     None
 }
 
-/// The first file behind the system files that has more than 77 clusters.
+/// The first file behind the system files that has more than 1,232 clusters. There is none where no chain of headers has a fault.
 pub fn first_large_file(home: &Home, blocks: &[Block]) -> Option<Finding>
     requires { IsWithinLimits home.now }
     ensures { IsFirstOf (volume home.now blocks.now) 6 result }

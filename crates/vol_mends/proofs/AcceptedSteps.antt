@@ -1,5 +1,5 @@
 -- The catalogue of blocks with no fatal finding, and that of an accepted volume.
-use Rattle.std.proofs.Common.{◌≡◌, ◌≤◌, ◌<◌, ◌+◌, ◌-◌, ◌/◌, ◌++◌, ◌∙◌, ◌⊎◌, inl, inr, ℕ, suc, Bool, true, false, cond, not, List, [], ◌∷◌, Option, Some, None, length, map, replicate, nat_lt, slice_get, refl, sym, ap, subst, arith}
+use Rattle.std.proofs.Common.{◌≡◌, ◌≤◌, ◌<◌, ◌+◌, ◌-◌, ◌/◌, ◌∙◌, ◌⊎◌, inl, inr, ℕ, suc, Bool, true, false, cond, not, List, [], ◌∷◌, Option, Some, None, length, map, replicate, nat_lt, slice_get, refl, sym, ap, subst, arith}
 use Rattle.std.specs.Prelude.{◌==◌, ◌&&◌, ◌||◌, is_some, is_none, filter, Result, Ok, Err}
 use Rattle.std.specs.List.{Contains, list_any}
 use Rattle.std.proofs.lemmas.Bool.{and_parts, and_from, or_cases, eqb-true}
@@ -26,7 +26,7 @@ use Rattle.plain_rules.specs.Changes.{with_row}
 use Rattle.plain_rules.specs.Mending.{entries_in, numbers_from, places, system_names, is_name_of, is_own}
 use Rattle.plain_rules.proofs.Standing.{stands_at}
 use Rattle.base_words.specs.Lists.{Has}
-use Rattle.base_words.proofs.Listing.{has_from, has_map, has_passed, any_has}
+use Rattle.base_words.proofs.Listing.{has_from, has_map, has_passed, any_has, none_left, none_right}
 use Rattle.plain_laws.proofs.Places.{in_to}
 use Rattle.plain_laws.proofs.Standing.{file_from}
 use Rattle.plain_mends.specs.Resuming.{AreKeyed}
@@ -285,14 +285,6 @@ module _ (v : Volume) (weak : (f : Finding) → IsFatalIn v f → ⊥) (enough :
     is_sound = record { systems = systems; sizes = sizes; owners = owners; entries = entries; named = named; closed = closed; ordered = λ n p. weak (finding.DirLoop n) (path n n p); channels = count }
 
 -- ---- warnings
-
-none_left : {X : Type 0} (xs ys : List X) → [] ≡ xs ++ ys → [] ≡ xs
-none_left [] ys e = refl
-none_left (x ∷ xs) ys e = absurd (cc e)
-
-none_right : {X : Type 0} (xs ys : List X) → [] ≡ xs ++ ys → [] ≡ ys
-none_right [] ys e = e
-none_right (x ∷ xs) ys e = absurd (cc e)
 
 no_names_none : (v : Volume) → [] ≡ warnings v → (p : Place) → Has (places (catalogue v)) p → is_some (in_use (catalogue v) p.entry.fid) ≡ true
 unfolding warnings names_none

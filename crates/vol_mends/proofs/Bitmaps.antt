@@ -131,14 +131,8 @@ module _ (g : Geometry) (bs : List Block) (c : Cat) (home : Home) (b : Block) (a
   abbrev end : Owners
   end = record { clusters = (owned g bs c are.told).own.clusters; numbers = turned (λ q. given) 0 (owned g bs c are.told).own.numbers }
 
-  -- the slot of a number that is leaked is no file's, so it is free
-  held_blank : (n k : ℕ) → IsFileNumber g n → slice_get o.own.numbers (n - 1) ≡ Some Leaked → slice_get mid.numbers (n - 1) ≡ Some (Outside k) → IsBlank (header_block g bs n)
-  held_blank n k is was now =
-      let r = each_is_owned.numbers g bs o.own c n o.spells is in
-      are.clean.strays n is (λ i number t. let mine : r.0 ≡ InFile i = (r.2.slots i number).0 t in let both : Some Leaked ≡ Some r.0 = sym was ∙ r.1 in cc)
-
   held : Spells g bs mid (with_leaks mid c)
-  held = death_leaks g bs o.own mid c 0 o.spells (record { clusters = still (IsDeathMove 0) o.own.clusters; numbers = turned_moves (IsDeathMove 0) (λ q. taken) o.own.numbers (λ q x at. take_moves x) }) held_blank
+  held = death_leaks g bs o.own mid c 0 o.spells (record { clusters = still (IsDeathMove 0) o.own.clusters; numbers = turned_moves (IsDeathMove 0) (λ q. taken) o.own.numbers (λ q x at. take_moves x) })
 
   part : IsPart g IndexBitmap
   part = tt

@@ -115,8 +115,7 @@ module _ (g : Geometry) (bs : List Block) (c : Cat) (home : Home) (k : ℕ) (b :
   held =
       let flags = sym o.spells.owners.leaked_numbers in
       subst (λ (ns : List Bool). Spells g bs mid (record c { leaked = left; leaked_numbers = ns })) flags
-      (death_leaks g bs o.own mid c 0 o.spells (record { clusters = turned_moves (IsDeathMove 0) (taken_in k) o.own.clusters (λ q x at. take_in_moves k q x); numbers = still (IsDeathMove 0) o.own.numbers })
-      (λ m j is was now. absurd (let both : Some Leaked ≡ Some (Outside j) = sym was ∙ now in cc both)))
+      (death_leaks g bs o.own mid c 0 o.spells (record { clusters = turned_moves (IsDeathMove 0) (taken_in k) o.own.clusters (λ q x at. take_in_moves k q x); numbers = still (IsDeathMove 0) o.own.numbers }))
 
   there : part_of g (place_of g (Storage k)) ≡ Some (Storage k)
   there = part_there g bs o.own c o.spells (Storage k) are.block

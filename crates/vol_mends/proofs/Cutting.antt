@@ -18,7 +18,7 @@ use Rattle.plain_cat.specs.declared.cat.Slot.{Slot}
 use Rattle.plain_cat.specs.declared.cat.Slot.TheVariants as slot
 use Rattle.plain_rules.specs.Changes.{with_slot}
 use Rattle.plain_rules.specs.Lookups.{file_most}
-use Rattle.vol_spell.specs.declared.owner.Owner.TheVariants.{InFile, Outside}
+use Rattle.vol_spell.specs.declared.owner.Owner.TheVariants.{InFile}
 use Rattle.vol_spell.specs.Owners.{IsFileMove}
 use Rattle.vol_spell.specs.Spread.{blocks_at}
 use Rattle.vol_parts.specs.declared.geometry.Geometry.{Geometry}
@@ -58,7 +58,7 @@ each_has None b = All-nil HasBlocks
 each_has (Some f) b = runs-some b
 
 -- a slot with these fields is used by them
-used_is : (r : Result Head HeaderFault) (x : Hdr) → fields_in r ≡ Some x → r ≡ Ok (head.Used x)
+pub used_is : (r : Result Head HeaderFault) (x : Hdr) → fields_in r ≡ Some x → r ≡ Ok (head.Used x)
 used_is (Ok (head.Used y)) x e = let one : y ≡ x = cc e in ap (λ (z : Hdr). Ok (head.Used z)) one
 used_is (Ok (head.Free seq)) x e = absurd (cc e)
 used_is (Err fault) x e = absurd (cc e)
@@ -115,13 +115,13 @@ module _ (g : Geometry) (bs : List Block) (c : Cat) (n : ℕ) (f : Hdr) (m : ℕ
   in_slots : Has (told_of g bs n).slots m
   in_slots = subst (λ (t : Told). Has t.slots m) (sym told_f) (ends_has (headers_at g bs) most_headers n f f.blocks m x rest for.ends)
 
-  number_m : IsFileNumber g m
+  pub number_m : IsFileNumber g m
   number_m = ((tells.slots m).0 in_slots).0
 
   owned_m : slice_get o.own.numbers (m - 1) ≡ Some (InFile n)
   owned_m = ((tells.slots m).0 in_slots).1
 
-  on : header_place g m < length bs
+  pub on : header_place g m < length bs
   on = on_volume g bs o.own c o.spells (header_place g m) (InFile 1) (part_owned g bs o.own c o.spells (Header m) number_m)
 
   block_now : header_block g new m ≡ b
@@ -268,8 +268,6 @@ module _ (g : Geometry) (bs : List Block) (c : Cat) (n : ℕ) (f : Hdr) (m : ℕ
     head = subst (IsHead m) (sym for.reads) (subst (IsHead m) reads_x (o.spells.slots.heads m number_m));
     alike = λ other. none_now other ∙ sym (none_before other);
     plain = not_structure n for.above;
-    lost = λ i is was none. absurd (none was);
-    outside = λ k at. let both : Some (InFile n) ≡ Some (Outside k) = sym owned_m ∙ at in absurd (cc both);
     moves = record { clusters = still (IsFileMove 0 n) o.own.clusters; numbers = still (IsFileMove 0 n) o.own.numbers };
     tells = tells_now;
     reserved = λ was low at. let high = for.above in absurd (omega (arith, low, high));

@@ -1,8 +1,7 @@
 -- Blocks of which nothing is left to mend.
-use Rattle.std.proofs.Common.{◌≡◌, ◌∙◌, ◌+◌, ◌++◌, ℕ, zero, suc, Bool, true, false, cond, not, List, [], ◌∷◌, Option, Some, None, Ok, Err, Result, All, map, filter, slice_get, get_or, replicate, refl, sym, ap, subst, arith, inr}
+use Rattle.std.proofs.Common.{◌≡◌, ◌∙◌, ◌+◌, ◌++◌, ℕ, zero, suc, Bool, true, false, cond, not, List, [], ◌∷◌, Option, Some, None, Ok, Err, Result, map, filter, slice_get, replicate, refl, sym, ap, subst, arith, inr}
 use Rattle.std.specs.Prelude.{◌&&◌, is_none, count_by}
 use Rattle.std.proofs.lemmas.Bool.{eq-eqb, and_parts}
-use Rattle.std.proofs.lemmas.Option.{slice_get-get_or, slice_get_within}
 use Rattle.base_words.specs.Fields.{Block}
 use Rattle.fx_home.specs.declared.home.Home.{Home}
 use Rattle.fx_home.specs.declared.home.HomeFault.{HomeFault}
@@ -17,12 +16,12 @@ use Rattle.plain_cat.specs.declared.history.Mended.{Mended}
 use Rattle.plain_rules.specs.declared.places.Place.{Place}
 use Rattle.plain_rules.specs.Lookups.{in_use, live, unmarked}
 use Rattle.plain_rules.specs.Accounts.{charge}
-use Rattle.plain_rules.specs.Mending.{places, stays, is_lost, is_lost_slot, is_empty, numbers_from, is_true, without_opens, mended}
+use Rattle.plain_rules.specs.Mending.{places, stays, is_lost, is_lost_slot, is_empty, is_true, without_opens, mended}
 use Rattle.plain_laws.specs.Clearing.{IsUnmarked, nothing_done}
 use Rattle.plain_mends.specs.Resuming.{MendsTo}
 use Rattle.plain_mends.specs.Waiting.{IsDone}
 use Rattle.vol_spell.proofs.Placing.{has_ranged}
-use Rattle.base_words.proofs.Listing.{has_at}
+use Rattle.base_words.proofs.Listing.{has_at, all_at}
 use Rattle.vol_parts.specs.declared.finding.Finding.TheVariants as finding
 use Rattle.vol_parts.specs.declared.geometry.Geometry.{Geometry}
 use Rattle.vol_parts.specs.Volumes.{Volume, volume, numbers}
@@ -32,6 +31,7 @@ use Rattle.vol_parts.specs.Findings.{home_at, Accepts, AreWarningsBy, IsCatalogu
 use Rattle.vol_spell.specs.Reading.{IsFileNumber}
 use Rattle.vol_mends.proofs.AcceptedSteps.{told_shut}
 use Rattle.plain_mends.proofs.DoneSteps.{done_mends}
+use Rattle.plain_mends.proofs.Numbers.{no_numbers, none_passes}
 use Rattle.plain_mends.proofs.Standing.{stays_each}
 use Rattle.plain_laws.proofs.Places.{in_from}
 use Rattle.vol_mends.specs.Told.{IsTold, IsSingle}
@@ -54,28 +54,6 @@ none_mapped f xs e = ap (map f) e
 none_kept : {A : Type 0} (p : A → Bool) (xs : List A) → ((k : ℕ) (x : A) → slice_get xs k ≡ Some x → p x ≡ false) → filter p xs ≡ []
 none_kept p [] never = refl
 none_kept p (x ∷ xs) never = ap (λ b. cond b (x ∷ filter p xs) (filter p xs)) (never 0 x refl) ∙ none_kept p xs (λ k y at. never (suc k) y at)
-
-no_numbers : (p : ℕ → Slot → Bool) (n : ℕ) (ss : List Slot) → ((k : ℕ) (s : Slot) → slice_get ss k ≡ Some s → p (n + k) s ≡ false) → numbers_from p n ss ≡ []
-no_numbers p n [] never = refl
-no_numbers p n (s ∷ ss) never =
-    let first : p n s ≡ false = ap (λ m. p m s) (let e : n ≡ n + 0 = omega arith in e) ∙ never 0 s refl in
-    ap (λ b. cond b (n ∷ numbers_from p (n + 1) ss) (numbers_from p (n + 1) ss)) first
-    ∙ no_numbers p (n + 1) ss (λ k t at. ap (λ m. p m t) (let e : n + 1 + k ≡ n + suc k = omega arith in e) ∙ never (suc k) t at)
-
-none_passes : (p : ℕ → Slot → Bool) (n : ℕ) (ss : List Slot) → numbers_from p n ss ≡ [] → (k : ℕ) (s : Slot) → slice_get ss k ≡ Some s → p (n + k) s ≡ false
-none_passes p n [] none k s at = absurd (cc at)
-none_passes p n (x ∷ ss) none k s at = by (p n x) refl none k at (λ h j. none_passes p (n + 1) ss h j s) where
-  by : (b : Bool) → p n x ≡ b → cond b (n ∷ numbers_from p (n + 1) ss) (numbers_from p (n + 1) ss) ≡ [] → (k : ℕ) → slice_get (x ∷ ss) k ≡ Some s
-      → (numbers_from p (n + 1) ss ≡ [] → (j : ℕ) → slice_get ss j ≡ Some s → p (n + 1 + j) s ≡ false) → p (n + k) s ≡ false
-  by true e h k at rest = absurd (cc h)
-  by false e h zero at rest = let same : x ≡ s = cc at in ap (λ m. p m s) (let z : n + 0 ≡ n = omega arith in z) ∙ (ap (p n) (sym same) ∙ e)
-  by false e h (suc k) at rest = ap (λ m. p m s) (let z : n + suc k ≡ n + 1 + k = omega arith in z) ∙ rest h k at
-
-at_place : {A : Type 0} (P : A → Type 0) (xs : List A) → All P xs → (k : ℕ) (x : A) → slice_get xs k ≡ Some x → P x
-at_place P xs all k x at =
-    let lt = slice_get_within xs k x at in
-    let both : Some (get_or xs k x) ≡ Some x = sym (slice_get-get_or xs k x lt) ∙ at in
-    subst P (cc both) (all k x lt)
 
 -- ---- nothing is found
 
@@ -101,7 +79,7 @@ module _ (c : Cat) (done : IsDone c) where
   unmarked_slot n (Used f) h = h
 
   no_mark : (k : ℕ) (s : Slot) → slice_get c.files k ≡ Some s → is_marked (1 + k) s ≡ false
-  no_mark k s at = unmarked_slot (1 + k) s (at_place IsUnmarked c.files done.marks k s at)
+  no_mark k s at = unmarked_slot (1 + k) s (all_at IsUnmarked c.files done.marks k s at)
 
   not_lost : (n : ℕ) (s : Slot) → is_lost_slot c false n s ≡ false → is_lost_slot c true n s ≡ false → is_lost_file c n s ≡ false
   not_lost n (Free seq) a b = refl
@@ -116,10 +94,10 @@ module _ (c : Cat) (done : IsDone c) where
       not_lost (1 + k) s (none_passes (is_lost_slot c false) 1 c.files done.full k s at) (none_passes (is_lost_slot c true) 1 c.files done.empty k s at)
 
   right_usage : (k : ℕ) (r : QuotaRow) → slice_get c.quota k ≡ Some r → is_miscounted c r ≡ false
-  right_usage k r at = ap not (eq-eqb r.usage (charge c r.owner) (at_place (λ (x : QuotaRow). x.usage ≡ charge c x.owner) c.quota done.usage k r at))
+  right_usage k r at = ap not (eq-eqb r.usage (charge c r.owner) (all_at (λ (x : QuotaRow). x.usage ≡ charge c x.owner) c.quota done.usage k r at))
 
   no_flags : count_by is_true c.leaked_numbers ≡ 0
-  no_flags = count_none is_true c.leaked_numbers (λ k b at. at_place (λ (x : Bool). x ≡ false) c.leaked_numbers done.numbers k b at)
+  no_flags = count_none is_true c.leaked_numbers (λ k b at. all_at (λ (x : Bool). x ≡ false) c.leaked_numbers done.numbers k b at)
 
 nothing_found : (v : Volume) → IsDone (catalogue v) → ((k n : ℕ) → slice_get (numbers v) k ≡ Some n → has_doubles v n ≡ false)
     → ((k n : ℕ) → slice_get (numbers v) k ≡ Some n → has_surplus v n ≡ false) → ((k n : ℕ) → slice_get (numbers v) k ≡ Some n → is_stray v n ≡ false) → warnings v ≡ []

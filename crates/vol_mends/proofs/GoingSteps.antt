@@ -480,7 +480,7 @@ goes_on = record { ends = ends; can = can }
 
 -- ---- blocks
 
-opens_same : (c d : Cat) → Change c d → d.opens ≡ c.opens
+pub opens_same : (c d : Cat) → Change c d → d.opens ≡ c.opens
 opens_same c d (Removed p f keyed goes) = refl
 opens_same c d (EnteredFull n ns settled waits entered) = ap (λ (z : Cat). z.opens) (shape_by c n d entered).is
 opens_same c d (EnteredEmpty ms n ns settled few none waits full entered) = ap (λ (z : Cat). z.opens) (shape_by c n d entered).is

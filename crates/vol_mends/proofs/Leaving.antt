@@ -1,6 +1,6 @@
 -- A slot that becomes free.
-use Rattle.std.proofs.Common.{◌≡◌, ◌≢◌, ◌∙◌, ◌<◌, ◌≤◌, ◌+◌, ◌-◌, ℕ, true, false, not, List, [], Some, length, map, slice_get, slice_set, refl, sym, ap, subst, arith, ◌⊎◌, inl, inr}
-use Rattle.std.specs.Prelude.{◌==◌, ◌||◌, count_by, is_some}
+use Rattle.std.proofs.Common.{◌≡◌, ◌≢◌, ◌∙◌, ◌<◌, ◌≤◌, ◌+◌, ◌-◌, ℕ, true, false, not, List, [], Some, length, map, slice_get, slice_set, length-set, refl, sym, ap, subst, arith, ◌⊎◌, inl, inr}
+use Rattle.std.specs.Prelude.{◌==◌, ◌||◌, ◌↔◌, count_by, is_some}
 use Rattle.std.proofs.lemmas.Bool.{eq-eqb, and_from}
 use Rattle.base_words.specs.Fields.{Block}
 use Rattle.plain_cat.specs.declared.ids.Fid.{Fid}
@@ -23,28 +23,29 @@ use Rattle.vol_parts.specs.declared.geometry.Part.TheVariants.{Header}
 use Rattle.vol_parts.specs.Chains.{as_first}
 use Rattle.vol_parts.specs.Volumes.{Told, fields_in}
 use Rattle.vol_parts.specs.Warnings.{is_double_dir}
-use Rattle.vol_spell.specs.Reading.{IsFileNumber, header_block, header_place, told_of, nobody, clusters_told, body_blocks}
-use Rattle.vol_spell.specs.Spelling.{IsHead, IsBlank, Tells, Spells}
+use Rattle.vol_spell.specs.Reading.{IsFileNumber, header_place, told_of, nobody, clusters_told, body_blocks}
+use Rattle.vol_spell.specs.Spelling.{IsHead, Tells, Spells}
 use Rattle.vol_spell.specs.Kinds.{IsHeaderFor, with_leaks}
 use Rattle.vol_spell.proofs.Adds.{size_told}
-use Rattle.vol_spell.proofs.Parts.{part_owned, in_use}
+use Rattle.vol_spell.proofs.Parts.{part_owned, in_use, number_slot}
 use Rattle.vol_spell.proofs.Frames.{on_volume}
 use Rattle.vol_spell.proofs.Viewing.{none_set, header_set}
 use Rattle.vol_spell.proofs.Keeping.{header_write, death_leaks}
-use Rattle.vol_mends.specs.Going.{Change, Freed}
+use Rattle.vol_mends.specs.Going.{Change, Freed, Leaked as Leaks}
 use Rattle.vol_mends.proofs.Tests.{tells_file}
 use Rattle.vol_mends.proofs.AcceptedSteps.{weak_can_mend}
 use Rattle.vol_spell.proofs.EntryDirs.{used_at}
 use Rattle.vol_mends.specs.Told.{LeadsTo, IsSingle, KeepsSingles}
-use Rattle.vol_mends.specs.Slots.{CanBeFreed, SlotIsFreed}
+use Rattle.vol_mends.specs.Slots.{CanBeFreed, leaving_slots, SlotIsFreed}
+use Rattle.base_words.specs.Lists.{Has}
+use Rattle.vol_parts.specs.Catalogues.{flagged}
+use Rattle.vol_parts.proofs.Flagging.{length-flagged}
 use Rattle.vol_spell.proofs.OneHeader.{none_split}
-use Rattle.vol_spell.proofs.Placing.{index-set_here}
-use Rattle.vol_mends.proofs.Alone.{alone_is}
 use Rattle.vol_mends.proofs.Basics.{clash, lower_or}
-use Rattle.vol_mends.proofs.WriteTold.{Owned, owned, changed, home_left}
+use Rattle.vol_mends.proofs.WriteTold.{Owned, owned, changed_on, home_left}
 use Rattle.vol_mends.proofs.OneWrite.{doubles_told, single_same}
 use Rattle.vol_mends.proofs.Moved.{file_number}
-use Rattle.vol_mends.proofs.Parting.{parted, to_node, to_leaks, nothing_left, no_number_out, leaks_out, leaks_count, flags_set}
+use Rattle.vol_mends.proofs.Parting.{parted, to_node, to_leaks, nothing_left, leaks_out, leaks_count, flags_set}
 use Rattle.vol_parts.proofs.Structures.{not_structure}
 
 one_fid : (a b : Fid) → a ≡ b → same_fid a b ≡ true
@@ -117,15 +118,6 @@ module _ (g : Geometry) (bs : List Block) (c : Cat) (n : ℕ) (f : File) (b : Bl
       let file = tells_file g.cluster n (told_of g bs n).head (body_blocks bs n (told_of g bs n)) f tells.slot in
       (in_use g bs o.own c o.spells n number).0 (ap is_some file.at)
 
-  -- the slot of the number that the file loses is the one that is written, which is free
-  lost : (i : ℕ) → IsFileNumber g i → slice_get o.own.numbers (i - 1) ≡ Some (InFile n) → IsBlank (header_block g new i)
-  lost i is mine =
-      let from = is.from in
-      let only = alone_is g bs o.own c o.spells (i - 1) n mine in
-      let same : n ≡ i = omega (arith, only, from) in
-      let free : IsBlank b = ap fields_in can.free in
-      subst (λ (k : ℕ). IsBlank (header_block g new k)) same (subst (λ (x : Block). IsBlank x) (sym (index-set_here bs (header_place g n) b on)) free)
-
   header_for : IsHeaderFor g bs 0 n n o.own mid c b (slot.Free f.seq)
   header_for = record {
     whole = can.whole;
@@ -137,8 +129,6 @@ module _ (g : Geometry) (bs : List Block) (c : Cat) (n : ℕ) (f : File) (b : Bl
     plain = not_structure n above;
     moves = to_node n o.own;
     tells = subst (λ (z : Told). Tells g mid n z (body_blocks bs n z) (slot.Free f.seq)) (sym told_now) tells_now;
-    lost = λ i is mine gone. lost i is mine;
-    outside = λ k e. ap fields_in can.free;
     reserved = λ old low at. let high = above in absurd (omega (arith, low, high));
   }
 
@@ -147,7 +137,6 @@ module _ (g : Geometry) (bs : List Block) (c : Cat) (n : ℕ) (f : File) (b : Bl
 
   leaked : Spells g new left (with_leaks left (with_slot c n (slot.Free f.seq)))
   leaked = death_leaks g new mid left (with_slot c n (slot.Free f.seq)) 0 written (to_leaks n o.own)
-      (λ m k is was now. absurd (no_number_out left (leaks_out n o.own o.outs) (m - 1) k now))
 
   -- ---- the catalogue
 
@@ -163,13 +152,21 @@ module _ (g : Geometry) (bs : List Block) (c : Cat) (n : ℕ) (f : File) (b : Bl
       let mine = clusters_of_file in
       omega (arith, all, were, mine)
 
-  one_number : (q : ℕ) → slice_get o.own.numbers q ≡ Some (InFile n) → q ≡ n - 1
-  one_number q e = let same = alone_is g bs o.own c o.spells q n e in omega (arith, same)
+  -- the numbers of the file are those of its header slots
+  numbered : (q : ℕ) → Has (told_of g bs n).slots (q + 1) ↔ (slice_get o.own.numbers q ≡ Some (InFile n))
+  numbered q =
+      let back : q + 1 - 1 ≡ q = omega arith in
+      ((λ t. ap (slice_get o.own.numbers) (sym back) ∙ ((tells.slots (q + 1)).0 t).1), (λ e. (number_slot g bs o.own c o.spells q n e).1))
 
-  numbers_left : map (is_same_owner Leaked) left.numbers ≡ slice_set c.leaked_numbers (n - 1) true
-  numbers_left = flags_set n 0 o.own.numbers (n - 1) in_number one_number ∙ ap (λ ns. slice_set ns (n - 1) true) (sym o.spells.owners.leaked_numbers)
+  numbers_left : map (is_same_owner Leaked) left.numbers ≡ flagged (told_of g bs n).slots c.leaked_numbers
+  numbers_left =
+      flags_set n o.own.numbers (told_of g bs n).slots (λ m t. ((tells.slots m).0 t).0.from) numbered
+      ∙ ap (flagged (told_of g bs n).slots) (sym o.spells.owners.leaked_numbers)
 
-  cat_is : with_leaks left (with_slot c n (slot.Free f.seq)) ≡ leaving c n f
+  abbrev gone : Cat
+  gone = leaving_slots c n f (told_of g bs n).slots
+
+  cat_is : with_leaks left (with_slot c n (slot.Free f.seq)) ≡ gone
   cat_is =
       let k = clusters_left in
       let ns = numbers_left in
@@ -181,17 +178,22 @@ module _ (g : Geometry) (bs : List Block) (c : Cat) (n : ℕ) (f : File) (b : Bl
   change : Change c (leaving c n f)
   change = Freed n f can.settled can.entered can.full can.file can.gone
 
-  spelt : Spells g new left (leaving c n f)
+  more : Change (leaving c n f) gone
+  more =
+      Leaks (leaving c n f).leaked (flagged (told_of g bs n).slots c.leaked_numbers)
+      (length-flagged (told_of g bs n).slots c.leaked_numbers ∙ sym (length-set c.leaked_numbers (n - 1) true))
+
+  spelt : Spells g new left gone
   spelt = subst (λ (x : Cat). Spells g new left x) cat_is leaked
 
-  slot_leads : LeadsTo g bs c (leaving c n f) new
-  slot_leads = changed g bs new left c (leaving c n f) can.told change spelt (leaks_out n o.own o.outs) (home_left bs (header_place g n) b home_apart)
+  slot_leads : LeadsTo g bs c gone new
+  slot_leads = changed_on g bs new left c (leaving c n f) gone can.told change more spelt (leaks_out n o.own o.outs) (home_left bs (header_place g n) b home_apart)
 
   -- ---- directories
 
   none_here : IsSingle g new n
   none_here =
-      doubles_told [] g new left (leaving c n f) spelt n number
+      doubles_told [] g new left gone spelt n number
       ∙ ap (λ (d : Told). is_double_dir (fields_in d.head) (body_blocks new n (told_of g new n))) told_now
 
   slot_singles : KeepsSingles g bs new
@@ -199,7 +201,7 @@ module _ (g : Geometry) (bs : List Block) (c : Cat) (n : ℕ) (f : File) (b : Bl
     by : (i ≡ n) ⊎ (i ≢ n) → IsSingle g new i
     by (inl same) = subst (λ k. IsSingle g new k) (sym same) none_here
     by (inr other) =
-        single_same g bs new o.own left c (leaving c n f) o.spells spelt i is
+        single_same g bs new o.own left c gone o.spells spelt i is
         ((header_set g bs o.own mid c 0 n n b (slot.Free f.seq) o.spells header_for).others i is other other) single
 
 pub slot_is_freed : SlotIsFreed

@@ -1,5 +1,4 @@
 pub mod AcceptedSteps
-pub mod Alone
 pub mod Basics
 pub mod Bitmaps
 pub mod Cleaned

@@ -35,7 +35,7 @@ use Rattle.vol_parts.specs.Volumes.{fields_in}
 use Rattle.vol_parts.specs.Catalogues.{plain_entry, is_structure}
 use Rattle.vol_parts.specs.Findings.{home_at}
 use Rattle.vol_spell.proofs.Frames.{body_owned, of_body}
-use Rattle.vol_spell.proofs.HeadSlots.{alone_told}
+use Rattle.vol_spell.proofs.HeadSlots.{alone_told, dir_slot}
 use Rattle.vol_spell.proofs.OneHeader.{alone_whole}
 use Rattle.vol_spell.proofs.Parts.{home_owned}
 use Rattle.vol_spell.specs.Reading.{IsFileNumber, owner_at, runs_told, runs_first, header_block, head_told, told_of, alone, body_places, body_blocks}
@@ -153,7 +153,7 @@ module _ (g : Geometry) (bs : List Block) (c : Cat) (n : ℕ) (d : File) (h : Ha
     body_now =
         let new_blocks : List Block = after_moves g n ms bs in
         let head : header_block g (after_moves g n ms bs) n ≡ header_block g bs n = moves_leave.header g bs o.own c n d old new j ms are in
-        let same : told_of g new_blocks n ≡ told_of g bs n = alone_told g new_blocks o.own y end n at.fields number (ap head_told head ∙ at.header) ∙ (ap (alone n at.fields) head ∙ sym at.told) in
+        let same : told_of g new_blocks n ≡ told_of g bs n = alone_told g new_blocks n at.fields (ap head_told head ∙ at.header) (dir_slot g new_blocks o.own y end n at.fields number (ap head_told head ∙ at.header) at.dir) ∙ (ap (alone n at.fields) head ∙ sym at.told) in
         ap (λ t. blocks_at new_blocks (body_places n t)) same
         ∙ (ap (blocks_at new_blocks) at.places ∙ (sym (ap (λ b. blocks_at new_blocks (places_in b)) head) ∙ moves_leave.blocks g bs o.own c n d old new j ms are))
 

@@ -1,5 +1,5 @@
 -- Clean blocks have no file with surplus and no stray header, and blocks without these are clean.
-use Rattle.std.proofs.Common.{◌≡◌, ◌≢◌, ◌∙◌, ◌++◌, ◌&&◌, ◌==◌, nat_lt, ℕ, Bool, true, false, List, [], ◌∷◌, Option, Some, None, Result, Ok, Err, filter, map, not, refl, sym, ap, subst, inl, inr, arith}
+use Rattle.std.proofs.Common.{◌≡◌, ◌≢◌, ◌∙◌, ◌++◌, ◌&&◌, ◌==◌, nat_lt, ℕ, Bool, true, false, List, [], Option, Some, None, Result, Ok, Err, filter, map, not, refl, sym, ap, subst, inl, inr, arith}
 use Rattle.std.specs.Prelude.{is_some, count_by}
 use Rattle.std.proofs.lemmas.Bool.{eqb-false, lt-ltb, and_from}
 use Rattle.std.proofs.lemmas.Option.{same_Some}
@@ -28,7 +28,7 @@ use Rattle.vol_spell.specs.Reading.{IsFileNumber, header_block, fields_told}
 use Rattle.vol_spell.specs.Spelling.{IsBlank, Spells}
 use Rattle.vol_spell.proofs.Heads.{first_there}
 use Rattle.vol_spell.proofs.Placing.{ranged_has}
-use Rattle.base_words.proofs.Listing.{has_map, has_passed}
+use Rattle.base_words.proofs.Listing.{has_map, has_passed, none_left, none_right}
 use Rattle.vol_mends.specs.Told.{IsTold}
 use Rattle.vol_mends.specs.Clean.{IsClean, IsNoSlot, AcceptedIsClean}
 use Rattle.vol_mends.proofs.Cleaned.{in_slots, slots_in}
@@ -36,14 +36,6 @@ use Rattle.vol_mends.proofs.Views.{v, v_head, v_told}
 use Rattle.vol_mends.proofs.WriteTold.{owned, home_told}
 
 -- ---- lists of which nothing passes
-
-none_left : {X : Type 0} (xs ys : List X) → [] ≡ xs ++ ys → [] ≡ xs
-none_left [] ys e = refl
-none_left (x ∷ xs) ys e = absurd (cc e)
-
-none_right : {X : Type 0} (xs ys : List X) → [] ≡ xs ++ ys → [] ≡ ys
-none_right [] ys e = e
-none_right (x ∷ xs) ys e = absurd (cc e)
 
 none_mapped : (f : ℕ → Finding) (p : ℕ → Bool) (ns : List ℕ) (n : ℕ) → [] ≡ map f (filter p ns) → Has ns n → p n ≡ false
 none_mapped f p ns n none has = by_test (p n) refl where

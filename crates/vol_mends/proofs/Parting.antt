@@ -1,6 +1,13 @@
 -- The clusters and the number of a file that go to another owner.
-use Rattle.std.proofs.Common.{◌≡◌, ◌∙◌, ◌+◌, ℕ, zero, suc, Bool, true, false, cond, List, [], ◌∷◌, Some, map, slice_get, slice_set, refl, sym, ap, arith, ◌⊎◌, inl, inr, if◌then◌else◌}
-use Rattle.std.specs.Prelude.{◌==◌, ◌≢◌, count_by}
+use Rattle.std.proofs.Common.{◌≡◌, ◌∙◌, ◌+◌, ◌<◌, ◌≤◌, ℕ, Bool, true, false, cond, List, [], Some, map, length, get_or, slice_get, refl, sym, ap, subst, arith, ◌⊎◌, inl, inr, if◌then◌else◌}
+use Rattle.std.specs.Prelude.{◌==◌, ◌≢◌, ◌↔◌, ◌||◌, count_by}
+use Rattle.std.specs.List.{list_any}
+use Rattle.std.proofs.lemmas.List.{ext_get_or, get_or-map, length-map}
+use Rattle.std.proofs.lemmas.Option.{slice_get-get_or, get_or_from_slice_get}
+use Rattle.base_words.specs.Lists.{Has}
+use Rattle.base_words.proofs.Listing.{any_has, has_any}
+use Rattle.vol_parts.specs.Catalogues.{flagged}
+use Rattle.vol_parts.proofs.Flagging.{flagged-at, length-flagged}
 use Rattle.std.proofs.lemmas.Bool.{eq-eqb, eqb-true}
 use Rattle.vol_spell.specs.declared.owner.Owner.{Owner}
 use Rattle.vol_spell.specs.declared.owner.Owner.TheVariants.{Free, InFile, Outside, Leaked}
@@ -8,7 +15,7 @@ use Rattle.vol_spell.specs.Owners.{Owners, OwnersMove, IsFileMove, IsDeathMove}
 use Rattle.vol_spell.specs.Counts.{is_same_owner}
 use Rattle.vol_mends.specs.Weak.{NoOuts}
 use Rattle.vol_mends.proofs.Basics.{clash}
-use Rattle.vol_mends.proofs.Turned.{turned, turned_was, turned_moves, turned_on, none_outside, count_turned}
+use Rattle.vol_mends.proofs.Turned.{turned, turned_count, turned_was, turned_is, turned_moves, turned_on, none_outside, count_turned}
 
 -- what file n has goes to this owner
 abbrev pub out_of : ℕ → Owner → Owner → Owner
@@ -129,23 +136,45 @@ flag_set : (n : ℕ) → is_same_owner Leaked (out_of n Leaked (InFile n)) ≡ t
 unfolding is_same_owner
 flag_set n = ap (λ b. is_same_owner Leaked (cond b Leaked (InFile n))) (eq-eqb n n refl)
 
-flags_kept : (n i : ℕ) (xs : List Owner) → ((q : ℕ) → slice_get xs q ≡ Some (InFile n) → ⊥) → map (is_same_owner Leaked) (turned (each_out n Leaked) i xs) ≡ map (is_same_owner Leaked) xs
-flags_kept n i [] never = refl
-flags_kept n i (x ∷ xs) never =
-    let first = flag_kept n x (λ e. never 0 (ap (λ y. Some y) e)) in
-    let rest = flags_kept n (suc i) xs (λ q e. never (suc q) e) in
-    λ j. first j ∷ rest j
+-- the numbers of the file are leaked, and the others are as they were
+pub flags_set : (n : ℕ) (xs : List Owner) (ns : List ℕ) → ((m : ℕ) → Has ns m → 1 ≤ m) → ((q : ℕ) → Has ns (q + 1) ↔ (slice_get xs q ≡ Some (InFile n)))
+    → map (is_same_owner Leaked) (turned (each_out n Leaked) 0 xs) ≡ flagged ns (map (is_same_owner Leaked) xs)
+flags_set n xs ns from are = ext_get_or false _ _ (count ∙ sym (length-flagged ns old ∙ length-map xs (is_same_owner Leaked))) each where
+  old : List Bool
+  old = map (is_same_owner Leaked) xs
 
--- the number of the file is leaked, and the others are as they were
-pub flags_set : (n i : ℕ) (xs : List Owner) (k : ℕ) → slice_get xs k ≡ Some (InFile n) → ((q : ℕ) → slice_get xs q ≡ Some (InFile n) → q ≡ k)
-    → map (is_same_owner Leaked) (turned (each_out n Leaked) i xs) ≡ slice_set (map (is_same_owner Leaked) xs) k true
-flags_set n i [] k at one = absurd (cc at)
-flags_set n i (x ∷ xs) zero at one =
-    let here : x ≡ InFile n = cc at in
-    let first : is_same_owner Leaked (out_of n Leaked x) ≡ true = ap (λ y. is_same_owner Leaked (out_of n Leaked y)) here ∙ flag_set n in
-    let rest = flags_kept n (suc i) xs (λ q e. let z : suc q ≡ 0 = one (suc q) e in omega (arith, z)) in
-    λ j. first j ∷ rest j
-flags_set n i (x ∷ xs) (suc k) at one =
-    let first = flag_kept n x (λ e. let z : 0 ≡ suc k = one 0 (ap (λ y. Some y) e) in omega (arith, z)) in
-    let rest = flags_set n (suc i) xs k at (λ q e. let z : suc q ≡ suc k = one (suc q) e in omega (arith, z)) in
-    λ j. first j ∷ rest j
+  count : length (map (is_same_owner Leaked) (turned (each_out n Leaked) 0 xs)) ≡ length xs
+  count = length-map (turned (each_out n Leaked) 0 xs) (is_same_owner Leaked) ∙ turned_count (each_out n Leaked) 0 xs
+
+  or_true : (t : Bool) → true ≡ (t || true)
+  or_true true = refl
+  or_true false = refl
+
+  or_false : (t : Bool) → t ≡ (t || false)
+  or_false true = refl
+  or_false false = refl
+
+  by_slot : (i : ℕ) (x : Owner) → slice_get xs i ≡ Some x → (t : Bool) → list_any (λ k. k == i + 1) ns ≡ t → is_same_owner Leaked (out_of n Leaked x) ≡ (is_same_owner Leaked x || t)
+  by_slot i x at true e =
+      let r = any_has (λ k. k == i + 1) ns e in
+      let mine = (are i).0 (subst (λ (k : ℕ). Has ns k) (eqb-true r.0 (i + 1) r.2) r.1) in
+      let both : Some x ≡ Some (InFile n) = sym at ∙ mine in
+      let is : x ≡ InFile n = cc both in
+      ap (λ y. is_same_owner Leaked (out_of n Leaked y)) is ∙ (flag_set n ∙ or_true (is_same_owner Leaked x))
+  by_slot i x at false e =
+      flag_kept n x (λ is. clash _ (has_any (λ k. k == i + 1) ns (i + 1) ((are i).1 (at ∙ ap (λ y. Some y) is)) (eq-eqb (i + 1) (i + 1) refl)) e)
+      ∙ or_false (is_same_owner Leaked x)
+
+  each : (i : ℕ) → i < length (map (is_same_owner Leaked) (turned (each_out n Leaked) 0 xs)) → get_or (map (is_same_owner Leaked) (turned (each_out n Leaked) 0 xs)) i false ≡ get_or (flagged ns old) i false
+  each i lt =
+      let all = count in
+      let long = turned_count (each_out n Leaked) 0 xs in
+      let known = length-map xs (is_same_owner Leaked) in
+      let inside : i < length xs = omega (arith, lt, all) in
+      let x = get_or xs i Free in
+      let at : slice_get xs i ≡ Some x = slice_get-get_or xs i Free inside in
+      get_or-map (is_same_owner Leaked) (turned (each_out n Leaked) 0 xs) i Free false (omega (arith, inside, long))
+      ∙ (ap (is_same_owner Leaked) (get_or_from_slice_get (turned (each_out n Leaked) 0 xs) i (out_of n Leaked x) Free (turned_is (each_out n Leaked) xs i x at))
+      ∙ (by_slot i x at (list_any (λ k. k == i + 1) ns) refl
+      ∙ (ap (λ t. t || list_any (λ k. k == i + 1) ns) (sym (get_or-map (is_same_owner Leaked) xs i Free false inside))
+      ∙ sym (flagged-at ns old i from (omega (arith, inside, known))))))

@@ -76,7 +76,6 @@ module _ (g : Geometry) (bs : List Block) (c : Cat) (m : ℕ) (f : Hdr) (b : Blo
     slot = slot_free;
     head = subst (IsHead m) (sym for.free) tt;
     blank = λ e. ap fields_in for.free;
-    outside = λ k e. ap fields_in for.free;
   }
 
   spelt : Spells g new o.own c

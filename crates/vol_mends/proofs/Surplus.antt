@@ -12,20 +12,11 @@ use Rattle.fx_header.proofs.SpellLemmas.{blocks_in-merged}
 use Rattle.plain_rules.specs.Lookups.{header_most}
 use Rattle.vol_parts.specs.Chains.{Headers, held, follows, next_header, slots_from, cut, most_headers, last_slot, has_link, ends_with_link, are_filled, are_parts_filled, chain_of, is_well_split}
 use Rattle.vol_parts.specs.ChainLaws.{HasBlocks, IsSlot, IsSameSlot}
-use Rattle.vol_parts.proofs.Cuts.{cut-past, cut-counts, cut-leaves, blocks-cons}
+use Rattle.vol_parts.proofs.Cuts.{cut_behind, cut-counts, cut-leaves, blocks-cons}
 use Rattle.vol_parts.proofs.Walks.{follows-parts, IsNext, next-is, next-from, walk-enough, walk-more}
 use Rattle.vol_mends.specs.Surplus.{unlinked, IsCutAt, EndsAt, AreMerged, IsChainCut, LastIsCut}
 
 -- ---- cuts
-
--- runs that end before the cut stay
-cut_behind : (k : ℕ) (rs ss : List Run) → blocks_in rs < k → cut k (rs ++ ss) ≡ rs ++ cut (k - blocks_in rs) ss
-cut_behind k [] ss lt = let e : k ≡ k - 0 = omega arith in ap (λ n. cut n ss) e
-cut_behind k (r ∷ rs) ss lt =
-    let sum = blocks-cons r rs in
-    let rest = cut_behind (k - r.count) rs ss (omega (arith, lt, sum)) in
-    let same : k - r.count - blocks_in rs ≡ k - blocks_in (r ∷ rs) = omega (arith, lt, sum) in
-    cut-past k r (rs ++ ss) (omega (arith, lt, sum)) ∙ (ap (λ xs. r ∷ xs) rest ∙ ap (λ n. r ∷ (rs ++ cut n ss)) same)
 
 pub blocks_joined : (rs ss : List Run) → blocks_in (rs ++ ss) ≡ blocks_in rs + blocks_in ss
 blocks_joined [] ss = let e : blocks_in ss ≡ 0 + blocks_in ss = omega arith in e

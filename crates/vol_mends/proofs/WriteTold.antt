@@ -20,7 +20,7 @@ use Rattle.vol_mends.specs.Weak.{NoOuts}
 use Rattle.vol_mends.specs.Going.{Change, Leaked}
 use Rattle.vol_mends.proofs.Views.{v, v_runs, v_bitmap}
 use Rattle.vol_mends.proofs.AcceptedSteps.{weak_can_mend, told_shut}
-use Rattle.vol_mends.proofs.GoingSteps.{goes_on, change_mends}
+use Rattle.vol_mends.proofs.GoingSteps.{goes_on, opens_same, change_mends}
 use Rattle.vol_mends.specs.Told.{IsTold, LeadsTo}
 
 -- ---- owners
@@ -89,6 +89,28 @@ changed g bs new own c d t change s outs home =
   where
     tells : CatOf new d
     tells = change_mends.tells g new own c d (weak_can_mend bs c t.cat).0 (told_shut bs c t.cat) change s outs
+
+    size : IsSize (length new)
+    size = let o = owned g bs c t in subst IsSize (o.spells.counts.blocks ∙ sym s.counts.blocks) t.size
+
+-- and after two changes, the one behind the other
+pub changed_on : (g : Geometry) (bs new : List Block) (own : Owners) (c d e : Cat) → IsTold g bs c → Change c d → Change d e → Spells g new own e → NoOuts own → home_at new ≡ home_at bs → LeadsTo g bs c e new
+changed_on g bs new own c d e t first second s outs home =
+    record {
+      home = home;
+      told = record { size = size; whole = s.whole; cat = tells; geometry = spelt_geometry g new own e s };
+      ends = λ z m. ends z m;
+      mends = λ z m. record { cat = e; told = tells; ends = ends z (subst (λ (x : Cat). MendsTo x z) (one_cat bs m.cat c m.told t.cat) m.ends) };
+    }
+  where
+    ends : (z : Cat) → MendsTo c z → MendsTo e z
+    ends z m = goes_on.ends d e z second (goes_on.ends c d z first m)
+
+    tells : CatOf new e
+    tells =
+        let can = (weak_can_mend bs c t.cat).0 in
+        let shut = opens_same c d first ∙ told_shut bs c t.cat in
+        change_mends.tells g new own d e (goes_on.can c d first can) shut second s outs
 
     size : IsSize (length new)
     size = let o = owned g bs c t in subst IsSize (o.spells.counts.blocks ∙ sym s.counts.blocks) t.size

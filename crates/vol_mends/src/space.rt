@@ -4,7 +4,8 @@ ghost use Rattle.vol_mends.specs.Tails.{StrayIsFreed, SurplusIsCut};
 ghost use Rattle.vol_mends.specs.Bits.{NumbersAreSet, ClustersAreSet};
 ghost use Rattle.vol_mends.specs.Rows.{RowsAreSummed};
 
-/// A slot that becomes free, with the same sequence, leaves the clusters and the number of its file leaked.
+/// The slot of a first header that becomes free, with the same sequence, leaves the clusters of its file leaked, and the numbers of
+/// all of its headers.
 pub fn slot_is_freed()
     ensures { SlotIsFreed }
 {}

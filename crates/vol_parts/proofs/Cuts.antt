@@ -77,6 +77,15 @@ cut-counts k rs = sym (length-lbns_in (cut k rs)) ∙ ap length (cut-takes k rs)
 pub blocks-cons : (r : Run) (rs : List Run) → blocks_in (r ∷ rs) ≡ r.count + blocks_in rs
 blocks-cons r rs = sum_by-cons (λ (s : Run). s.count) r rs
 
+-- runs that end before the cut stay
+pub cut_behind : (k : ℕ) (rs ss : List Run) → blocks_in rs < k → cut k (rs ++ ss) ≡ rs ++ cut (k - blocks_in rs) ss
+cut_behind k [] ss lt = let e : k ≡ k - 0 = omega arith in ap (λ n. cut n ss) e
+cut_behind k (r ∷ rs) ss lt =
+    let sum = blocks-cons r rs in
+    let rest = cut_behind (k - r.count) rs ss (omega (arith, lt, sum)) in
+    let same : k - r.count - blocks_in rs ≡ k - blocks_in (r ∷ rs) = omega (arith, lt, sum) in
+    cut-past k r (rs ++ ss) (omega (arith, lt, sum)) ∙ (ap (λ xs. r ∷ xs) rest ∙ ap (λ n. r ∷ (rs ++ cut n ss)) same)
+
 no-runs : (rs : List Run) → All HasBlocks rs → blocks_in rs ≤ 0 → rs ≡ []
 no-runs [] all h = refl
 no-runs (r ∷ rs) all h =

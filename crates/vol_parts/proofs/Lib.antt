@@ -3,6 +3,7 @@ pub mod Alone
 pub mod Bytes
 pub mod ChainSteps
 pub mod Cuts
+pub mod FewClusters
 pub mod FirstLemmas
 pub mod Flagging
 pub mod Groups

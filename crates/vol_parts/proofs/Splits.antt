@@ -106,7 +106,7 @@ pub record SplitGoesOn (h : Headers) (full j k n : ℕ) (f : Hdr) (left : ℕ) :
   pub split : are_parts_filled full left (map h.lists (slots_from h j n f left))
       ≡ ((held h n == full) && are_parts_filled full (left - held h n) (map h.lists (slots_from h k f.ext next (left - held h n))))
 
-goes-on : (h : Headers) (full k n : ℕ) (f : Hdr) (left : ℕ) → held h n < left → left ≤ sum_by (held h) (slots_from h (suc k) n f left)
+pub goes-on : (h : Headers) (full k n : ℕ) (f : Hdr) (left : ℕ) → held h n < left → left ≤ sum_by (held h) (slots_from h (suc k) n f left)
     → SplitGoesOn h full (suc k) k n f left
 goes-on h full k n f left past all =
     elim (walk h k n f left) [

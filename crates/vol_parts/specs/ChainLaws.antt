@@ -1,13 +1,13 @@
 -- What holds of every cut and of every chain of headers.
-use Rattle.std.specs.Prelude.{◌≡◌, ◌+◌, ◌*◌, ◌-◌, ◌/◌, ◌%◌, ◌<◌, ◌≤◌, ◌⊎◌, ℕ, suc, min, true, false, List, [], ◌∷◌, Some, All, length, map, take, slice_get}
+use Rattle.std.specs.Prelude.{◌≡◌, ◌+◌, ◌*◌, ◌-◌, ◌/◌, ◌%◌, ◌<◌, ◌≤◌, ◌⊎◌, ℕ, suc, min, true, false, List, [], ◌∷◌, Some, None, All, length, map, take, slice_get}
 use Rattle.std.specs.List.{list_any, sum_by}
 use Rattle.base_words.specs.Lists.{Has, Once}
 use Rattle.fx_header.specs.declared.run.Run.{Run}
 use Rattle.fx_header.specs.declared.slot.Hdr.{Hdr}
 use Rattle.fx_header.specs.Pointers.{blocks_in, lbns_in}
 use Rattle.plain_rules.specs.Lookups.{header_most}
-use Rattle.vol_parts.specs.Volumes.{Volume, factor, listed_in}
-use Rattle.vol_parts.specs.Fatal.{is_off_bounds}
+use Rattle.vol_parts.specs.Volumes.{Volume, factor, fields, listed_in}
+use Rattle.vol_parts.specs.Fatal.{chain_fault, is_off_bounds, is_too_large}
 use Rattle.vol_parts.specs.Chains.{Headers, HeaderChain, held, follows, slots_from, cut, most_headers, chain_with, chain_of, is_broken, is_well_split}
 
 -- ---- cuts
@@ -152,3 +152,7 @@ abbrev pub FewAreInOne : Type 0
 FewAreInOne =
     (h : Headers) (n : ℕ) (f : Hdr) (factor clusters : ℕ) → IsSplitOf factor f clusters (chain_of h n f)
     → clusters ≤ header_most → (chain_of h n f).slots ≡ n ∷ []
+
+-- a file whose chain has no fault has at most 1,232 clusters, also if its last cluster is not whole
+abbrev pub SoundIsFew : Type 0
+SoundIsFew = (v : Volume) (n : ℕ) → chain_fault v n ≡ None → is_too_large v (fields v n) ≡ false

@@ -10,6 +10,7 @@ use Rattle.vol_parts.specs.Volumes.{volume, headers_of}
 use Rattle.vol_parts.specs.declared.one_slot.SlotRuns.{SlotRuns}
 use Rattle.vol_parts.specs.declared.walk.FileRuns.{FileRuns}
 
+-- the runs of a map that are left, if it was begun
 abbrev pub left_in : Option RunIter → List Run
 left_in None = []
 left_in (Some it) = runs_left it

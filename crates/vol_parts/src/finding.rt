@@ -34,7 +34,7 @@ pub enum Finding {
     /// A run of this file does not begin and end at a cluster's bounds, or is not inside the whole clusters.
     Runs(u32),
 
-    /// This file, whose number is above 11, has more than 77 clusters.
+    /// This file, whose number is above 11, has more than 1,232 clusters.
     Clusters(u32),
 
     /// This cluster is in two runs.

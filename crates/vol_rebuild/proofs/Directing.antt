@@ -1,5 +1,5 @@
 -- The moves by which a directory changes, from what its blocks are.
-use Rattle.std.proofs.Common.{◌≡◌, ◌≤◌, ◌<◌, ◌-◌, ◌&&◌, ◌∙◌, ℕ, Bool, true, false, cond, List, Some, None, Result, Ok, All, length, nat_le, refl, sym, ap, subst, arith}
+use Rattle.std.proofs.Common.{◌≡◌, ◌≤◌, ◌<◌, ◌-◌, ◌&&◌, ◌∙◌, ℕ, Bool, true, false, cond, List, [], ◌∷◌, Some, None, Result, Ok, All, length, nat_le, refl, sym, ap, subst, inl, inr, arith}
 use Rattle.std.specs.Prelude.{option_map, is_some}
 use Rattle.std.specs.Result.{IsOk, ForOk}
 use Rattle.std.proofs.lemmas.Bool.{and_parts, leb-true}
@@ -20,6 +20,8 @@ use Rattle.plain_rules.specs.Directories.{inserted, fits, is_taken}
 use Rattle.plain_rules.specs.Changes.{with_entries}
 use Rattle.plain_rules.specs.Mending.{enter, lost_entry, if_room, with_lost_entry}
 use Rattle.plain_mends.specs.Resuming.{Goes, less_one}
+use Rattle.std.proofs.lemmas.List.Elements.{All-nil, All-cons}
+use Rattle.base_words.specs.Lists.{Has}
 use Rattle.base_words.proofs.Listing.{has_from}
 use Rattle.vol_spell.specs.Spread.{blocks_at}
 use Rattle.vol_parts.specs.declared.geometry.Geometry.{Geometry}
@@ -33,10 +35,14 @@ use Rattle.vol_mends.proofs.MovedSteps.{dir_is_packed, taken, entry_goes}
 use Rattle.vol_mends.proofs.Entering.{enter_is, lost_is_entered}
 use Rattle.vol_rebuild.specs.Places.{places_told, IsThere, DirLeads}
 use Rattle.vol_rebuild.specs.Steps.{CanEnterOne}
-use Rattle.vol_rebuild.proofs.Reading.{in_geometry, there}
+use Rattle.vol_rebuild.proofs.Reading.{in_geometry, header_on}
 use Rattle.vol_rebuild.proofs.Leading.{leads_by, packs_by}
 
 -- ---- a directory that is read
+
+all_has : {A : Type 0} (P : A → Type 0) (xs : List A) → ((x : A) → Has xs x → P x) → All P xs
+all_has P [] h = All-nil P
+all_has P (x ∷ xs) h = All-cons P x xs (h x (inl refl)) (all_has P xs (λ y k. h y (inr k)))
 
 module _ (g : Geometry) (bs : List Block) (c : Cat) (n : ℕ) (d : File) (h : HasDir g bs c n d) where
   pub seen : DirTold g bs n d
@@ -44,7 +50,10 @@ module _ (g : Geometry) (bs : List Block) (c : Cat) (n : ℕ) (d : File) (h : Ha
 
   -- its header and its blocks are on the volume
   pub dir_there : IsThere g bs n
-  dir_there = there g bs c h.told n seen.number
+  dir_there = record {
+    header = header_on g bs c h.told n seen.number;
+    blocks = all_has (λ l. l < length bs) (places_told (header_block g bs n)) (λ l t. seen.within l (subst (λ (ls : List ℕ). Has ls l) seen.places t));
+  }
 
   module _ (ls : List ℕ) (found : List Block) (is : ls ≡ places_told (header_block g bs n)) (blocks : found ≡ blocks_at bs (places_told (header_block g bs n))) where
     pub places_are : ls ≡ places_in (header_block g bs n)

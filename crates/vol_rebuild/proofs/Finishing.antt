@@ -15,13 +15,13 @@ use Rattle.plain_mends.proofs.Frames.{mended_by}
 use Rattle.vol_parts.specs.declared.geometry.Geometry.{Geometry}
 use Rattle.vol_mends.specs.Told.{IsTold}
 use Rattle.vol_rebuild.specs.Leaving.{gone_numbers}
-use Rattle.vol_rebuild.specs.Steps.{AreSingles, IsStripped, AreEntered, AreFreed, IsTidy, AreSummed}
+use Rattle.vol_rebuild.specs.Steps.{leaking, AreSingles, IsStripped, AreEntered, AreFreed, IsTidy, AreSummed}
 use Rattle.vol_rebuild.specs.Tails.{AreTailsClear}
 use Rattle.vol_rebuild.specs.Ways.{IsWay}
 use Rattle.vol_rebuild.specs.Rebuilt.{IsRebuilt}
 use Rattle.vol_rebuild.proofs.Stepping.{way_mends}
 use Rattle.vol_rebuild.proofs.Reading.{ends_at}
-use Rattle.vol_rebuild.proofs.Going.{none_lost, unmarked_left}
+use Rattle.vol_rebuild.proofs.Going.{settled_aside, none_lost, unmarked_left}
 use Rattle.vol_mends.proofs.Finished.{done_is_accepted}
 
 some_same : {X : Type 0} {x y : X} → Some x ≡ Some y → x ≡ y
@@ -69,9 +69,9 @@ pub record AreSteps (g : Geometry) (old new : List Block) (c : Cat) (done : Mend
   pub enters : AreEntered g first second packed_blocks entered_blocks done.entered
   pub frees : AreFreed g second third entered_blocks freed_blocks done.gone
   pub cleared_blocks : List Block
-  pub clears : AreTailsClear g third freed_blocks cleared_blocks
-  pub tidies : IsTidy g third cleared_blocks tidy_blocks
-  pub sums : AreSummed g (without_leaks third) tidy_blocks new
+  pub clears : AreTailsClear g (leaking third frees.told.leaked frees.told.flags) freed_blocks cleared_blocks
+  pub tidies : IsTidy g (leaking third frees.told.leaked frees.told.flags) cleared_blocks tidy_blocks
+  pub sums : AreSummed g (without_leaks (leaking third frees.told.leaked frees.told.flags)) tidy_blocks new
   pub clusters : done.clusters ≡ c.leaked
   pub numbers : done.numbers ≡ count_by is_true c.leaked_numbers
 
@@ -87,11 +87,15 @@ rebuilt g old new c done s = record {
   accepted = done_is_accepted.accepted g new last s.sums.told finished (s.sums.clean (s.tidies.clean s.clears.clean)) (λ n is. s.sums.singles n is (s.tidies.singles n is (s.clears.singles n is (s.frees.singles n is (s.enters.singles n is (s.packs n is))))));
   left = s.sums.told.cat;
 } where
+  -- what the blocks tell once the slots are free
+  left : Cat
+  left = leaking s.third s.frees.told.leaked s.frees.told.flags
+
   last : Cat
-  last = settled_up s.third s.sums.rows
+  last = settled_up left s.sums.rows
 
   finished : IsDone last
-  finished = is_done s.third s.sums.rows s.frees.settled.stay s.frees.none s.sums.usage
+  finished = is_done left s.sums.rows (settled_aside s.third s.frees.told.leaked s.frees.told.flags s.frees.settled).stay s.frees.none s.sums.usage
 
   ends : (z : Cat) × MendsTo c z
   ends = ends_at g old c s.told

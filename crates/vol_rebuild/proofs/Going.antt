@@ -1,5 +1,6 @@
 -- The files that go, one after another.
-use Rattle.std.proofs.Common.{◌≡◌, ◌==◌, ◌&&◌, ◌||◌, ◌-◌, ◌+◌, ◌<◌, inl, ◌∙◌, ℕ, Bool, true, false, cond, not, List, [], ◌∷◌, Some, All, slice_get, refl, sym, ap, subst, arith}
+use Rattle.std.proofs.Common.{◌≡◌, ◌==◌, ◌&&◌, ◌||◌, ◌-◌, ◌+◌, ◌<◌, inl, ◌∙◌, ℕ, Bool, true, false, cond, not, List, [], ◌∷◌, Some, None, All, map, slice_get, refl, sym, ap, subst, arith}
+use Rattle.std.specs.Prelude.{option_map}
 use Rattle.std.specs.List.{list_any}
 use Rattle.std.proofs.lemmas.Bool.{and_from, eqb-true, eq-eqb}
 use Rattle.std.proofs.lemmas.List.Elements.{All-nil, All-cons}
@@ -11,6 +12,7 @@ use Rattle.plain_cat.specs.declared.cat.Slot.{Slot}
 use Rattle.plain_cat.specs.declared.cat.Slot.TheVariants.{Used, Free}
 use Rattle.plain_rules.specs.declared.places.Place.{Place}
 use Rattle.plain_rules.specs.Mending.{entries_in, places, same_fid, is_empty, is_named, is_lost_slot, numbers_from, lost}
+use Rattle.plain_rules.specs.Changes.{freed}
 use Rattle.plain_laws.specs.Clearing.{IsUnmarked}
 use Rattle.plain_mends.specs.Resuming.{leaving}
 use Rattle.plain_mends.specs.Waiting.{Settled, AreFull}
@@ -24,8 +26,29 @@ use Rattle.plain_laws.proofs.Unfinished.{numbers_distinct}
 use Rattle.plain_mends.proofs.FullSteps.{but, but_first, numbers_set, and_false}
 use Rattle.plain_mends.proofs.SlotSteps.{lost_has, slot_settled, slot_none, slot_full, places_set, not_empty}
 use Rattle.vol_rebuild.specs.Leaving.{is_gone_slot, gone_numbers}
-use Rattle.vol_rebuild.specs.Steps.{IsGone, used_count}
+use Rattle.plain_mends.proofs.Frames.{beside, enter_beside, stripped_beside}
+use Rattle.vol_rebuild.specs.Steps.{leaking, IsGone, used_count}
 use Rattle.vol_rebuild.proofs.Counting.{used_less}
+
+-- what is leaked is no matter of which entries stay
+pub settled_aside : (c : Cat) (k : ℕ) (flags : List Bool) → Settled c → Settled (leaking c k flags)
+settled_aside c k flags s = record {
+  stay = stripped_beside k flags c.quota c.opens c ∙ ap (beside k flags c.quota (map (λ o. None) c.opens)) s.stay;
+  names = record {
+    unmarked = s.names.unmarked;
+    written = s.names.written;
+    lost = λ f at. let l = s.names.lost f at in record { directory = l.directory; unmarked = l.unmarked; own = l.own };
+  };
+  owned = s.owned;
+}
+
+-- nor of which files have room in [SYSLOST]
+pub full_aside : (c : Cat) (k : ℕ) (flags : List Bool) → AreFull c (lost c true) → AreFull (leaking c k flags) (lost (leaking c k flags) true)
+full_aside c k flags full n has = enter_beside k flags c.quota c.opens c n ∙ ap (option_map (beside k flags c.quota c.opens)) (full n has)
+
+-- nor of which files go
+pub gone_aside : (c : Cat) (k : ℕ) (flags : List Bool) (n : ℕ) → IsGone c n → IsGone (leaking c k flags) n
+gone_aside c k flags n h = record { settled = settled_aside c k flags h.settled; none = h.none; full = full_aside c k flags h.full; file = h.file; at = h.at; gone = h.gone }
 
 -- the first of the files that go
 pub first_gone : (c : Cat) (n : ℕ) (ns : List ℕ) → Settled c → lost c false ≡ [] → AreFull c (lost c true) → gone_numbers c ≡ n ∷ ns → IsGone c n
@@ -47,7 +70,7 @@ module _ (c : Cat) (n : ℕ) (h : IsGone c n) where
   f = h.file
 
   abbrev pub y : Cat
-  y = leaving c n f
+  y = freed c n f
 
   rises : 0 < n
   rises = number_rises c n f h.at
@@ -118,13 +141,13 @@ module _ (c : Cat) (n : ℕ) (h : IsGone c n) where
   used_fewer = used_less c.files (n - 1) f f.seq stands
 
   pub settled_on : Settled y
-  settled_on = slot_settled c n f h.settled h.none h.at h.gone
+  settled_on = settled_aside (leaving c n f) c.leaked c.leaked_numbers (slot_settled c n f h.settled h.none h.at h.gone)
 
   pub none_on : lost y false ≡ []
   none_on = slot_none c n f h.settled h.none h.at h.gone
 
   pub full_on : AreFull y (lost y true)
-  full_on = slot_full c n f h.settled h.none h.full h.at h.gone
+  full_on = full_aside (leaving c n f) c.leaked c.leaked_numbers (slot_full c n f h.settled h.none h.full h.at h.gone)
 
 -- ---- where none is left
 

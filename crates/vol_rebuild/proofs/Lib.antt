@@ -18,4 +18,5 @@ pub mod Usages
 pub mod Stripping
 pub mod Lacking
 pub mod Tailing
+pub mod Lasts
 pub mod Surpluses

@@ -1,13 +1,8 @@
 -- What blocks that tell a catalogue have.
-use Rattle.std.proofs.Common.{◌≡◌, ◌≤◌, ◌<◌, ◌/◌, ◌-◌, ◌∙◌, inl, inr, ℕ, false, cond, List, [], ◌∷◌, Option, Some, None, length, replicate, get_or, refl, sym, ap, subst, arith}
-use Rattle.std.specs.Prelude.{All}
+use Rattle.std.proofs.Common.{◌≡◌, ◌≤◌, ◌<◌, ◌-◌, ◌∙◌, ℕ, false, cond, List, [], Option, Some, None, length, replicate, get_or, refl, sym, ap, arith}
 use Rattle.std.proofs.lemmas.List.{length-map}
-use Rattle.std.proofs.lemmas.List.Elements.{All-nil, All-cons}
-use Rattle.std.proofs.lemmas.List.Sums.{count_by-le-length}
-use Rattle.std.proofs.Math.Nat.{div-le_self}
 use Rattle.std.proofs.lemmas.Option.{slice_get_within}
 use Rattle.base_words.specs.Fields.{Block}
-use Rattle.fx_header.specs.Pointers.{lbns_in}
 use Rattle.fx_dir.specs.Directory.{directory}
 use Rattle.plain_cat.specs.declared.cat.Cat.{Cat}
 use Rattle.plain_cat.specs.declared.cat.File.{File}
@@ -18,7 +13,6 @@ use Rattle.plain_rules.proofs.Standing.{stands_at}
 use Rattle.plain_laws.proofs.Standing.{number_rises}
 use Rattle.plain_mends.specs.Resuming.{MendsTo, AreKeyed}
 use Rattle.vol_spell.specs.declared.owner.Owner.TheVariants.{Leaked, InFile}
-use Rattle.base_words.specs.Lists.{Has}
 use Rattle.vol_spell.specs.Counts.{is_same_owner}
 use Rattle.vol_parts.specs.declared.geometry.Geometry.{Geometry}
 use Rattle.vol_parts.specs.declared.geometry.Part.TheVariants.{Header}
@@ -26,11 +20,10 @@ use Rattle.vol_parts.specs.declared.finding.Finding.TheVariants as finding
 use Rattle.vol_parts.specs.Parts.{IsGeometry}
 use Rattle.vol_parts.specs.Catalogues.{plain_entries}
 use Rattle.vol_faults.proofs.RoomLemmas.{no-room-exact}
-use Rattle.vol_spell.specs.Reading.{IsFileNumber, header_block, header_place, told_of, body_blocks}
+use Rattle.vol_spell.specs.Reading.{IsFileNumber, header_place, told_of, body_blocks}
 use Rattle.vol_spell.specs.Spelling.{Spells}
-use Rattle.vol_spell.proofs.Parts.{slot_there, told, in_file, part_owned}
+use Rattle.vol_spell.proofs.Parts.{slot_there, told, part_owned}
 use Rattle.vol_spell.proofs.Frames.{on_volume}
-use Rattle.vol_spell.proofs.HeadSlots.{alone_runs}
 use Rattle.vol_mends.specs.Weak.{CanMend}
 use Rattle.vol_mends.proofs.Tests.{TellsFile, tells_file}
 use Rattle.vol_mends.proofs.AcceptedSteps.{weak_can_mend, told_shut}
@@ -38,11 +31,6 @@ use Rattle.vol_analyze.specs.Conditions.{HasFileSizes}
 use Rattle.vol_analyze.proofs.Weakly.{file-sizes}
 use Rattle.vol_mends.specs.Told.{IsTold}
 use Rattle.vol_mends.proofs.WriteTold.{owned}
-use Rattle.vol_rebuild.specs.Places.{places_told, IsThere}
-
-all_has : {A : Type 0} (P : A → Type 0) (xs : List A) → ((x : A) → Has xs x → P x) → All P xs
-all_has P [] h = All-nil P
-all_has P (x ∷ xs) h = All-cons P x xs (h x (inl refl)) (all_has P xs (λ y k. h y (inr k)))
 
 module _ (g : Geometry) (bs : List Block) (c : Cat) (t : IsTold g bs c) where
   abbrev s : Spells g bs (owned g bs c t).own c
@@ -64,16 +52,6 @@ module _ (g : Geometry) (bs : List Block) (c : Cat) (t : IsTold g bs c) where
 
   pub few_flags : length c.leaked_numbers ≤ 4096
   few_flags = let a = flags in let b = few_files in omega (arith, a, b)
-
-  -- no more clusters are leaked than there are
-  pub few_leaked : c.leaked ≤ 65536
-  few_leaked =
-      let count = count_by-le-length (is_same_owner Leaked) (owned g bs c t).own.clusters in
-      let is = s.owners.leaked in
-      let all = s.counts.clusters in
-      let most : g.blocks / g.cluster ≤ g.blocks = div-le_self g.blocks g.cluster in
-      let end = s.counts.geometry.blocks_to in
-      omega (arith, count, is, all, most, end)
 
   pub keyed : AreKeyed c
   keyed = (weak_can_mend bs c t.cat).1
@@ -113,12 +91,9 @@ module _ (g : Geometry) (bs : List Block) (c : Cat) (t : IsTold g bs c) where
       let dir : h.hdr.dir ≡ false = ap (λ (x : File). x.dir) h.is ∙ other in
       sym (ap (λ (x : File). x.entries) h.is) ∙ ap (λ b. cond b (plain_entries (directory (body_blocks bs n (told_of g bs n)))) []) dir
 
-  -- the header and the blocks of a number are on the volume
-  pub there : (n : ℕ) → IsFileNumber g n → IsThere g bs n
-  there n is = record {
-    header = on_volume g bs (owned g bs c t).own c s (header_place g n) (InFile 1) (part_owned g bs (owned g bs c t).own c s (Header n) is);
-    blocks = all_has (λ l. l < length bs) (places_told (header_block g bs n)) (λ l h. on_volume g bs (owned g bs c t).own c s l (InFile n) (in_file g bs (owned g bs c t).own c s n l is (subst (λ rs. Has (lbns_in rs) l) (sym (alone_runs g bs (owned g bs c t).own c s n is)) h)));
-  }
+  -- the header of a number is on the volume
+  pub header_on : (n : ℕ) → IsFileNumber g n → header_place g n < length bs
+  header_on n is = on_volume g bs (owned g bs c t).own c s (header_place g n) (InFile 1) (part_owned g bs (owned g bs c t).own c s (Header n) is)
 
   pub sizes : HasFileSizes c
   sizes = file-sizes bs c t.size t.whole t.cat

@@ -22,7 +22,7 @@ written_at ls ms bs = written (moved_at ls ms) bs
 abbrev pub places_told : Block → List ℕ
 places_told b = lbns_in (runs_told b)
 
--- the header of file n and its blocks are on the volume
+-- the header of directory n and its blocks are on the volume
 pub record IsThere (g : Geometry) (bs : List Block) (n : ℕ) : Type 0 where
   pub header : header_place g n < length bs
   pub blocks : All (λ l. l < length bs) (places_told (header_block g bs n))

@@ -25,6 +25,16 @@ used_count c = count_by is_used c.files
 abbrev pub AreSingles : Geometry → List Block → Type 0
 AreSingles g bs = (n : ℕ) → IsFileNumber g n → IsSingle g bs n
 
+-- the catalogue with so many clusters and these numbers leaked
+abbrev pub leaking : Cat → ℕ → List Bool → Cat
+leaking c k flags = record c { leaked = k; leaked_numbers = flags }
+
+-- the blocks tell this catalogue, but for what is leaked
+pub record TellsFiles (g : Geometry) (bs : List Block) (c : Cat) : Type 0 where
+  pub leaked : ℕ
+  pub flags : List Bool
+  pub told : IsTold g bs (leaking c leaked flags)
+
 -- so many entries are removed from c, and all that are left stay
 pub record IsStripped (g : Geometry) (c d : Cat) (new : List Block) (k : ℕ) : Type 0 where
   pub told : IsTold g new d
@@ -97,9 +107,9 @@ pub record IsGone (c : Cat) (n : ℕ) : Type 0 where
   pub at : file_at c n ≡ Some file
   pub gone : is_gone c n file ≡ true
 
--- the slots of so many files are free, and none is left that is gone
+-- the first slots of so many files are free, and none is left that is gone
 pub record AreFreed (g : Geometry) (c d : Cat) (old new : List Block) (k : ℕ) : Type 0 where
-  pub told : IsTold g new d
+  pub told : TellsFiles g new d
   pub settled : Settled d
   pub none : gone_numbers d ≡ []
   pub files : used_count d + k ≡ used_count c

@@ -8,7 +8,10 @@ use Rattle.vol_spell.specs.Reading.{IsFileNumber, header_block, told_of}
 use Rattle.vol_spell.specs.Spelling.{IsBlank}
 use Rattle.vol_mends.specs.Told.{IsTold, KeepsSingles}
 use Rattle.vol_mends.specs.Clean.{IsNoSlot, IsClean}
+use Rattle.vol_parts.specs.Chains.{Headers}
+use Rattle.vol_mends.specs.Surplus.{EndsAt}
 use Rattle.vol_mends.specs.Tails.{IsForSurplus}
+use Rattle.vol_rebuild.specs.declared.surplus.CutHeader.{CutHeader}
 
 -- ---- surplus
 
@@ -20,10 +23,15 @@ HasNoSurplus g bs n = (told_of g bs n).surplus ≡ false
 abbrev pub NoneHasSurplus : Geometry → List Block → Type 0
 NoneHasSurplus g bs = (n : ℕ) → IsFileNumber g n → HasNoSurplus g bs n
 
--- the block for the last header of the file n, which is its first, without the surplus that the file has; none where it has none
-abbrev pub IsCutFor : Geometry → List Block → Cat → ℕ → Option Block → Type 0
+-- Of so many blocks from the slot n on, whose header is f, along the links, the last `rest` ones lie in the slot m, whose header is x;
+-- k slots at most.
+pub record IsLast (h : Headers) (k n : ℕ) (f : Hdr) (left m : ℕ) (x : Hdr) (rest : ℕ) : Type 0 where
+  pub ends : EndsAt h k n f left m x rest
+
+-- a block for the slot of the last header of the file n, without the surplus that the file has; none where it has none
+abbrev pub IsCutFor : Geometry → List Block → Cat → ℕ → Option CutHeader → Type 0
 IsCutFor g bs c n None = HasNoSurplus g bs n
-IsCutFor g bs c n (Some b) = (f : Hdr) × IsForSurplus g bs c n f n f f.blocks b
+IsCutFor g bs c n (Some cut) = (f : Hdr) × (x : Hdr) × (rest : ℕ) × IsForSurplus g bs c n f cut.slot x rest cut.block
 
 -- the file n has no surplus, and the other files are as before
 pub record IsFileCut (g : Geometry) (c : Cat) (old new : List Block) (n : ℕ) : Type 0 where

@@ -40,7 +40,7 @@ fn push_run(all: &mut Vec<usize>, run: Run) -> Result<(), NoMemory>
 }
 
 // The runs that a header lists.
-fn listed(alloc: Global, header: &Block) -> Result<Vec<Run>, NoMemory>
+pub(crate) fn listed(alloc: Global, header: &Block) -> Result<Vec<Run>, NoMemory>
     requires offsets { IsTrue (has_offsets header.now) }
     requires map { IsTrue (has_map header.now) }
     ensures { IfOk result (λ v. v.items ≡ runs_in header.now) }
@@ -53,7 +53,7 @@ fn listed(alloc: Global, header: &Block) -> Result<Vec<Run>, NoMemory>
 }
 
 // The runs of a file that has one header, by this header: none where it is no first header in use.
-pub(crate) fn first_runs(alloc: Global, header: &Block) -> Result<Vec<Run>, NoMemory>
+fn first_runs(alloc: Global, header: &Block) -> Result<Vec<Run>, NoMemory>
     ensures { IfOk result (λ v. v.items ≡ runs_told header.now) }
 {
     let Ok(Slot::Used(f)) = read_header(header) else {

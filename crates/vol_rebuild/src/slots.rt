@@ -2,14 +2,14 @@
 
 ghost use Rattle.std.specs.Prelude.{◌≡◌, ◌≤◌, ◌<◌, ◌+◌, ◌-◌, ◌^◌, Err, Some, [], true, false, length, slice_get, IfOk, OnOk};
 ghost use Rattle.plain_cat.specs.declared.cat.File.{File};
+ghost use Rattle.plain_rules.specs.Changes.{freed};
 ghost use Rattle.plain_rules.specs.Lookups.{file_at};
 ghost use Rattle.plain_rules.specs.Mending.{places, lost};
-ghost use Rattle.plain_mends.specs.Resuming.{leaving};
 ghost use Rattle.plain_mends.specs.Waiting.{Settled, AreFull};
 ghost use Rattle.vol_faults.specs.Places.{AreFirsts};
 ghost use Rattle.vol_mends.specs.Told.{IsTold, KeepsSingles};
 ghost use Rattle.vol_rebuild.specs.Leaving.{is_gone_slot, gone_numbers};
-ghost use Rattle.vol_rebuild.specs.Steps.{IsGone, AreFreed};
+ghost use Rattle.vol_rebuild.specs.Steps.{TellsFiles, IsGone, AreFreed};
 ghost use Rattle.vol_rebuild.specs.Ways.{IsStep};
 
 use crate::fault::StepFault;
@@ -62,42 +62,36 @@ fn gone_numbers(alloc: Global, cat: &Cat) -> Result<Vec<u32>, NoMemory>
     gone_of(alloc, cat, firsts.as_slice())
 }
 
-// The catalogue with the slot of file n free. Its clusters and its number are leaked until the bitmaps are written.
-fn leave(cat: &mut Cat, n: u32, seq: u16, clusters: u32)
-    requires file { (f : File) × (file_at cat.old n ≡ Some f) × (f.seq ≡ seq) × (f.clusters ≡ clusters) }
-    requires flags { length cat.old.leaked_numbers ≡ length cat.old.files }
-    requires fits { cat.old.leaked + clusters < 2 ^ 32 }
-    ensures { (f : File) → file_at cat.old n ≡ Some f → cat.new ≡ leaving cat.old n f }
+// The catalogue with the slot of file n free. What is leaked then it does not say: the bitmaps are written by the headers.
+fn leave(cat: &mut Cat, n: u32, seq: u16)
+    requires file { (f : File) × (file_at cat.old n ≡ Some f) × (f.seq ≡ seq) }
+    ensures { (f : File) → file_at cat.old n ≡ Some f → cat.new ≡ freed cat.old n f }
 {
-    let at = n as usize - 1;
-    cat.files.set(at, Slot::Free(seq));
-    cat.leaked += clusters;
-    cat.leaked_numbers.set(at, true);
+    cat.files.set(n as usize - 1, Slot::Free(seq));
 }
 
-// Frees the slot of a file.
+// Frees the slot of the first header of a file. Its other headers are in no chain then.
 fn free<I: ImageDev>(
     m: &mut Mirror<I>,
     g: &Geometry,
     cat: &mut Cat,
     n: u32,
 ) -> Result<(), StepFault>
-    requires told { IsTold g.now m.old.blocks cat.old }
+    requires told { TellsFiles g.now m.old.blocks cat.old }
     requires gone { IsGone cat.old n }
     ensures step { IsStep m.old.blocks m.new.blocks (I.told m.old.image) (I.told m.new.image) (I.faults m.old.image) (I.faults m.new.image) (result ≡ Err StepFault.ImageFault) }
-    ensures told { OnOk result (IsTold g.now m.new.blocks cat.new) }
-    ensures left { (f : File) → file_at cat.old n ≡ Some f → OnOk result (cat.new ≡ leaving cat.old n f) }
+    ensures told { OnOk result (TellsFiles g.now m.new.blocks cat.new) }
+    ensures left { (f : File) → file_at cat.old n ≡ Some f → OnOk result (cat.new ≡ freed cat.old n f) }
     ensures singles { OnOk result (KeepsSingles g.now m.old.blocks m.new.blocks) }
 {
     let Some(file) = file_at(cat, n) else {
         return Ok(());
     };
     let seq = file.seq;
-    let clusters = file.clusters;
     let b = free_slot(seq);
     block_is_whole(b);
     make(m, 4 * g.cluster + n, &b)?;
-    leave(cat, n, seq, clusters);
+    leave(cat, n, seq);
     Ok(())
 }
 

@@ -1,12 +1,12 @@
 -- Where nothing is left to mend, nothing is once the data of one file have changed.
-use Rattle.std.proofs.Common.{◌≡◌, ◌∙◌, ◌<◌, ◌+◌, ◌-◌, ◌++◌, ◌⊎◌, inl, inr, ℕ, zero, suc, Bool, true, false, cond, not, List, [], ◌∷◌, Some, All, map, get_or, set, slice_get, nat_le, refl, sym, ap, subst, arith}
+use Rattle.std.proofs.Common.{◌≡◌, ◌∙◌, ◌<◌, ◌+◌, ◌-◌, ◌++◌, ◌⊎◌, inl, inr, ℕ, zero, suc, Bool, true, false, cond, not, List, [], ◌∷◌, Some, map, get_or, set, slice_get, nat_le, refl, sym, ap, subst}
 use Rattle.std.specs.Prelude.{◌&&◌}
 use Rattle.std.specs.List.{sum_by, list_any}
 use Rattle.std.proofs.lemmas.Bool.{cases_eq}
 use Rattle.std.proofs.lemmas.List.Sums.{sum_by-cons}
-use Rattle.std.proofs.lemmas.Option.{slice_get-get_or, slice_get_within}
 use Rattle.base_words.specs.Fields.{Block}
 use Rattle.base_words.specs.Lists.{Has}
+use Rattle.base_words.proofs.Listing.{all_at, all_from}
 use Rattle.plain_cat.specs.declared.ids.Fid.{Fid}
 use Rattle.plain_cat.specs.declared.ids.Uic.{Uic}
 use Rattle.plain_cat.specs.declared.entries.DirEnt.{DirEnt}
@@ -18,7 +18,7 @@ use Rattle.plain_rules.specs.declared.places.Place.{Place}
 use Rattle.plain_rules.specs.Lookups.{file_at}
 use Rattle.plain_rules.specs.Changes.{with_file}
 use Rattle.plain_rules.specs.Accounts.{share, charge}
-use Rattle.plain_rules.specs.Mending.{entries_in, places_from, places, same_fid, is_own, is_first, stays, is_empty, is_named, is_lost, is_lost_slot, numbers_from}
+use Rattle.plain_rules.specs.Mending.{entries_in, places_from, places, same_fid, is_own, is_first, stays, is_empty, is_named, is_lost, is_lost_slot}
 use Rattle.plain_rules.proofs.Standing.{stands_at}
 use Rattle.plain_rules.proofs.Placing.{placed}
 use Rattle.plain_laws.specs.Clearing.{IsUnmarked}
@@ -26,34 +26,10 @@ use Rattle.plain_laws.proofs.Standing.{number_rises, set_same, set_other, file_s
 use Rattle.plain_laws.proofs.Steps.{stays_parts, stays_from}
 use Rattle.plain_mends.specs.Waiting.{IsDone}
 use Rattle.plain_mends.proofs.Standing.{stays_each, all_stay}
+use Rattle.plain_mends.proofs.Numbers.{no_numbers, none_passes}
 use Rattle.vol_records.specs.Keeping.{with_data}
 
 -- ---- lists
-
-pub no_numbers : (p : ℕ → Slot → Bool) (n : ℕ) (ss : List Slot) → ((k : ℕ) (s : Slot) → slice_get ss k ≡ Some s → p (n + k) s ≡ false) → numbers_from p n ss ≡ []
-no_numbers p n [] never = refl
-no_numbers p n (s ∷ ss) never =
-    let first : p n s ≡ false = ap (λ m. p m s) (let e : n ≡ n + 0 = omega arith in e) ∙ never 0 s refl in
-    ap (λ b. cond b (n ∷ numbers_from p (n + 1) ss) (numbers_from p (n + 1) ss)) first
-    ∙ no_numbers p (n + 1) ss (λ k t at. ap (λ m. p m t) (let e : n + 1 + k ≡ n + suc k = omega arith in e) ∙ never (suc k) t at)
-
-pub none_passes : (p : ℕ → Slot → Bool) (n : ℕ) (ss : List Slot) → numbers_from p n ss ≡ [] → (k : ℕ) (s : Slot) → slice_get ss k ≡ Some s → p (n + k) s ≡ false
-none_passes p n [] none k s at = absurd (cc at)
-none_passes p n (x ∷ ss) none k s at = by (p n x) refl none k at (λ h j. none_passes p (n + 1) ss h j s) where
-  by : (b : Bool) → p n x ≡ b → cond b (n ∷ numbers_from p (n + 1) ss) (numbers_from p (n + 1) ss) ≡ [] → (k : ℕ) → slice_get (x ∷ ss) k ≡ Some s
-      → (numbers_from p (n + 1) ss ≡ [] → (j : ℕ) → slice_get ss j ≡ Some s → p (n + 1 + j) s ≡ false) → p (n + k) s ≡ false
-  by true e h k at rest = absurd (cc h)
-  by false e h zero at rest = let same : x ≡ s = cc at in ap (λ m. p m s) (let z : n + 0 ≡ n = omega arith in z) ∙ (ap (p n) (sym same) ∙ e)
-  by false e h (suc k) at rest = ap (λ m. p m s) (let z : n + suc k ≡ n + 1 + k = omega arith in z) ∙ rest h k at
-
-pub at_place : {A : Type 0} (P : A → Type 0) (xs : List A) → All P xs → (k : ℕ) (x : A) → slice_get xs k ≡ Some x → P x
-at_place P xs all k x at =
-    let lt = slice_get_within xs k x at in
-    let both : Some (get_or xs k x) ≡ Some x = sym (slice_get-get_or xs k x lt) ∙ at in
-    subst P (cc both) (all k x lt)
-
-pub from_places : {A : Type 0} (P : A → Type 0) (xs : List A) → ((k : ℕ) (x : A) → slice_get xs k ≡ Some x → P x) → All P xs
-from_places P xs each k x lt = each k (get_or xs k x) (slice_get-get_or xs k x lt)
 
 places_set : (k i : ℕ) (ss : List Slot) (s t : Slot) → slice_get ss i ≡ Some s → entries_in t ≡ entries_in s → places_from k (set ss i t) ≡ places_from k ss
 places_set k i [] s t at e = refl
@@ -174,9 +150,9 @@ module _ (c : Cat) (n : ℕ) (f : File) (mark end byte : ℕ) (blocks : List Blo
       by_case : ((k ≡ n - 1) × (s ≡ Used (with_data f mark end byte blocks))) ⊎ (slice_get c.files k ≡ Some s) → IsUnmarked s
       by_case (inl (here, is)) =
           let P : Slot → Type 0 = IsUnmarked in
-          let old : f.marked ≡ false = at_place IsUnmarked c.files done.marks (n - 1) (Used f) stands in
+          let old : f.marked ≡ false = all_at IsUnmarked c.files done.marks (n - 1) (Used f) stands in
           subst P (sym is) old
-      by_case (inr old) = at_place IsUnmarked c.files done.marks k s old
+      by_case (inr old) = all_at IsUnmarked c.files done.marks k s old
 
     each_stays : (m : ℕ) (x : File) (e : DirEnt) → file_at d m ≡ Some x → Has x.entries e → stays d (record { dir = m; entry = e }) ≡ true
     each_stays m x e there has = stays_still (record { dir = m; entry = e }) (by_case (cases_eq m n)) where
@@ -192,7 +168,7 @@ module _ (c : Cat) (n : ℕ) (f : File) (mark end byte : ℕ) (blocks : List Blo
       stay = all_stay d each_stays;
       full = no_numbers (is_lost_slot d false) 1 d.files (not_lost false);
       empty = no_numbers (is_lost_slot d true) 1 d.files (not_lost true);
-      marks = from_places IsUnmarked d.files unmarked;
+      marks = all_from IsUnmarked d.files unmarked;
       clusters = done.clusters;
       numbers = done.numbers;
       usage = λ k r lt. done.usage k r lt ∙ sym (charge_same (get_or c.quota k r).owner);

@@ -1,12 +1,12 @@
 -- Of an accepted volume nothing is left to mend.
-use Rattle.std.proofs.Common.{◌≡◌, ◌∙◌, ◌+◌, ◌-◌, ◌++◌, ◌⊎◌, inl, inr, ℕ, zero, suc, Bool, true, false, cond, not, List, [], ◌∷◌, Option, Some, None, Result, Ok, Err, map, filter, slice_get, refl, sym, ap, subst, arith}
+use Rattle.std.proofs.Common.{◌≡◌, ◌∙◌, ◌+◌, ◌-◌, ◌⊎◌, inl, inr, ℕ, zero, suc, Bool, true, false, cond, not, List, [], ◌∷◌, Option, Some, None, Result, Ok, Err, map, filter, slice_get, refl, sym, ap, subst, arith}
 use Rattle.std.specs.Prelude.{◌==◌, ◌&&◌, is_none, count_by}
 use Rattle.std.proofs.lemmas.Bool.{cases_Bool, eqb-true}
 use Rattle.std.proofs.lemmas.List.Sums.{sum_by-cons}
 use Rattle.std.proofs.lemmas.Option.{slice_get_within}
 use Rattle.base_words.specs.Fields.{Block}
 use Rattle.base_words.specs.Lists.{Has}
-use Rattle.base_words.proofs.Listing.{has_at, has_passed}
+use Rattle.base_words.proofs.Listing.{has_at, has_passed, all_from, none_left, none_right}
 use Rattle.fx_home.specs.declared.home.Home.{Home}
 use Rattle.fx_home.specs.declared.home.HomeFault.{HomeFault}
 use Rattle.fx_home.specs.Homes.{home_read}
@@ -27,6 +27,7 @@ use Rattle.plain_laws.proofs.Standing.{number_rises}
 use Rattle.plain_laws.proofs.Places.{in_to}
 use Rattle.plain_mends.specs.Waiting.{IsDone}
 use Rattle.plain_mends.proofs.Standing.{all_stay}
+use Rattle.plain_mends.proofs.Numbers.{no_numbers, none_passes}
 use Rattle.plain_mends.proofs.SoundAnswers.{used_part}
 use Rattle.vol_parts.specs.declared.finding.Finding.{Finding}
 use Rattle.vol_parts.specs.declared.finding.Finding.TheVariants as finding
@@ -39,17 +40,8 @@ use Rattle.vol_spell.specs.Owners.{Owners}
 use Rattle.vol_spell.specs.Reading.{IsFileNumber, told_of, body_blocks}
 use Rattle.vol_spell.specs.Spelling.{Spells}
 use Rattle.vol_mends.proofs.Tests.{tells_file}
-use Rattle.vol_records.proofs.DataKeeps.{none_passes, no_numbers, from_places}
 
 -- ---- lists of findings
-
-none_left : {X : Type 0} (xs ys : List X) → [] ≡ xs ++ ys → [] ≡ xs
-none_left [] ys e = refl
-none_left (x ∷ xs) ys e = absurd (cc e)
-
-none_right : {X : Type 0} (xs ys : List X) → [] ≡ xs ++ ys → [] ≡ ys
-none_right [] ys e = e
-none_right (x ∷ xs) ys e = absurd (cc e)
 
 none_mapped : {X Y : Type 0} (f : X → Y) (xs : List X) → [] ≡ map f xs → xs ≡ []
 none_mapped f [] e = refl
@@ -158,10 +150,10 @@ module _ (c : Cat) (v : Volume) (none : AreNone c v) where
       stay = all_stay c each_stays;
       full = empty_of false;
       empty = empty_of true;
-      marks = from_places IsUnmarked c.files unmarked_slot;
+      marks = all_from IsUnmarked c.files unmarked_slot;
       clusters = none.clusters;
-      numbers = from_places (λ (b : Bool). b ≡ false) c.leaked_numbers (no_flag c.leaked_numbers none.numbers);
-      usage = from_places (λ (r : QuotaRow). r.usage ≡ charge c r.owner) c.quota right;
+      numbers = all_from (λ (b : Bool). b ≡ false) c.leaked_numbers (no_flag c.leaked_numbers none.numbers);
+      usage = all_from (λ (r : QuotaRow). r.usage ≡ charge c r.owner) c.quota right;
     } where
       empty_of : (empty : Bool) → numbers_from (is_lost_slot c empty) 1 c.files ≡ []
       empty_of empty = no_numbers (is_lost_slot c empty) 1 c.files (not_lost empty)

@@ -8,7 +8,7 @@ use Rattle.std.proofs.Math.Nat.{mod-lt, div-add-mod}
 use Rattle.base_words.specs.Fields.{Block, IsBytes, AreWholeBlocks}
 use Rattle.base_words.specs.Lists.{written}
 use Rattle.base_words.specs.Tables.{zeros}
-use Rattle.base_words.proofs.Listing.{has_at}
+use Rattle.base_words.proofs.Listing.{has_at, all_from}
 use Rattle.base_words.proofs.ListWrites.{written_joined}
 use Rattle.fx_home.specs.declared.home.Home.{Home}
 use Rattle.fx_home.specs.Homes.{home_read}
@@ -40,7 +40,7 @@ use Rattle.vol_mends.proofs.Views.{v_runs}
 use Rattle.vol_mends.proofs.WriteTold.{Owned, owned, one_cat}
 use Rattle.vol_spell.specs.Lbns.{is_file, lbns_by, lbns_at}
 use Rattle.vol_spell.specs.Files.{with_sizes, blocks_told, IsFileThere, IsResized}
-use Rattle.vol_spell.proofs.HeadSlots.{file_blocks, file_told_at}
+use Rattle.vol_spell.proofs.HeadSlots.{file_told_at}
 use Rattle.vol_spell.proofs.HeadFiles.{not_structure}
 use Rattle.vol_spell.proofs.FilePlaces.{places, size, count}
 use Rattle.vol_spell.proofs.Heads.{reads_first}
@@ -50,7 +50,7 @@ use Rattle.vol_records.specs.Making.{placed}
 use Rattle.vol_records.specs.Streams.{end_at, plain_only, all_blocks, shown_stream}
 use Rattle.vol_records.specs.Storing.{of_sequence, used_file, refusal_by, store_refusal, chunks, blocks_for, stored, IsStored, IsUntouched, IsSafe, stored_header, store_writes, writes_by, writes_at}
 use Rattle.vol_records.proofs.Chunks.{length-chunks, whole_chunks, bytes_back, enough, no_more}
-use Rattle.vol_records.proofs.DataKeeps.{data_at, from_places}
+use Rattle.vol_records.proofs.DataKeeps.{data_at}
 use Rattle.vol_records.proofs.Shown.{streams-shown}
 use Rattle.vol_records.proofs.StoreClean.{low_blocks}
 use Rattle.vol_records.proofs.StoreSteps.{IsBare, header_made}
@@ -246,7 +246,7 @@ module _ (home : Home) (bs : List Block) (n seq : ℕ) (bytes : List ℕ) (can :
   o = owned g bs c told
 
   abbrev f : File
-  f = file_of (geometry_of (volume home bs)).cluster n allows.hdr (file_blocks bs (header_block (geometry_of (volume home bs)) bs n))
+  f = file_of (geometry_of (volume home bs)).cluster n allows.hdr (blocks_told (geometry_of (volume home bs)) bs n)
 
   number : IsFileNumber (geometry_of (volume home bs)) n
   number = record { from = used.number.from; to = used.number.to }
@@ -388,7 +388,7 @@ module _ (home : Home) (bs : List Block) (n seq : ℕ) (bytes : List ℕ) (can :
   pub stores_safely : StoresSafely home bs n seq bytes
   stores_safely = record {
     number = used.number;
-    inside = from_places (λ l. l < length bs) all_places each_inside;
+    inside = all_from (λ l. l < length bs) all_places each_inside;
     room = room;
     few = (let fits = allows.room in let e = many in let top = low_blocks g o.own c n h f bs o.spells there in omega (arith, fits, e, top));
     header = on_volume g bs o.own c o.spells (header_place g n) (InFile 1) (part_owned g bs o.own c o.spells (Header n) number);

@@ -243,7 +243,7 @@ length-files_of v = length-map-range_with_len (slot_of v) 1 v.home.files
 few_by : (g : Geometry) (n : ℕ) (r : Result Head HeaderFault) (rs : List Run) → 1 ≤ g.cluster → IsHead n r → AreWhole g rs → blocks_in rs ≡ size_in (fields_in r)
     → ((f : Hdr) → fields_in r ≡ Some f → nat_lt file_most (f.blocks / g.cluster) ≡ false) → length (clusters_of g.cluster rs) ≤ file_most
 few_by g n r rs low is w size few = by_head r (size_by g n r rs [] (slot_with g.cluster n r []) low is w size refl) is few where
-  at_most : (x k : ℕ) → x ≡ k → nat_lt 77 x ≡ false → k ≤ 77
+  at_most : (x k : ℕ) → x ≡ k → nat_lt file_most x ≡ false → k ≤ file_most
   at_most x k e t = grind (arith, nat_tests)
 
   by_head : (q : Result Head HeaderFault) → clusters_in (slot_with g.cluster n q []) ≡ length (clusters_of g.cluster rs) → IsHead n q
@@ -795,7 +795,7 @@ module _ (home : Home) (bs : List Block) (read : home_read (home_at bs) ≡ Ok h
     structures = v_structures;
     constants = record { factor = refl; total = refl; reserved = refl; rows = ap (λ k. 16 * k) v_row_count };
     files = v_files;
-    slots = record { heads = v_reads; blank = v_blank; outside = λ m k is e. absurd (number_never_outside v m k (number_from_at m (Outside k) is e)) };
+    slots = record { heads = v_reads; blank = v_blank };
     rows = record {
       quota = ap rows_sorted v_rows;
       once = v_row_owners;

@@ -33,7 +33,7 @@ use Rattle.vol_parts.specs.Chains.{cut}
 use Rattle.vol_parts.specs.Fatal.{is_one_header, is_cluster_run, is_system_header, has_dir_size, found_in}
 use Rattle.vol_spell.specs.Reading.{IsFileNumber, header_block, head_told, told_of, alone, body_places, body_blocks}
 use Rattle.vol_spell.specs.Spelling.{Tells, dir_found, Spells}
-use Rattle.vol_spell.proofs.HeadSlots.{alone_told, dir_runs}
+use Rattle.vol_spell.proofs.HeadSlots.{alone_told, dir_slot, dir_runs}
 use Rattle.vol_spell.proofs.OneHeader.{alone_whole}
 use Rattle.vol_spell.proofs.Frames.{of_body}
 use Rattle.vol_spell.proofs.Told.{no_dir, no_directory, which_structure}
@@ -133,9 +133,9 @@ module _ (g : Geometry) (bs : List Block) (own : Owners) (x : Cat) (s : Spells g
   by_read (Err fault) e told = absurd (cc)
   by_read (Ok (head.Free seq)) e told = absurd (cc)
   by_read (Ok (head.Used f)) e told =
-      let one : told_of g bs n ≡ alone n f h = alone_told g bs own x s n f is e in
       let file : file_of g.cluster n f (body_blocks bs n (told_of g bs n)) ≡ d = cc in
       let is_dir : f.dir ≡ true = ap (λ (y : File). y.dir) file ∙ dir in
+      let one : told_of g bs n ≡ alone n f h = alone_told g bs n f e (dir_slot g bs own x s n f is e is_dir) in
       let plain : is_structure n ≡ false = plain_directory g bs own x s n f (ap (λ (t : Told). t.head) one) is_dir in
       let places : body_places n (told_of g bs n) ≡ places_in h =
       ap (λ q. if q then [] else lbns_in (told_of g bs n).runs) plain ∙ ap lbns_in (dir_runs g bs own x s n f is e is_dir) in

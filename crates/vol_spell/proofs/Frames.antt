@@ -15,7 +15,7 @@ use Rattle.plain_cat.specs.declared.cat.Cat.{Cat}
 use Rattle.plain_cat.specs.declared.cat.Slot.{Slot}
 use Rattle.plain_rules.specs.Lookups.{clusters_in}
 use Rattle.vol_spell.specs.declared.owner.Owner.{Owner}
-use Rattle.vol_spell.specs.declared.owner.Owner.TheVariants.{Free, InFile, Outside}
+use Rattle.vol_spell.specs.declared.owner.Owner.TheVariants.{Free, InFile}
 use Rattle.base_words.specs.Lists.{Has, Once, Touches, written}
 use Rattle.vol_spell.specs.Owners.{Owners}
 use Rattle.base_words.proofs.Listing.{same_or_not}
@@ -104,28 +104,23 @@ structures_stay g bs l b home control told st =
 
 -- ---- header slots
 
--- a block that is set in no header slot leaves them, and no other number is free or outside
+-- a block that is set in no header slot leaves them, where the slots of the numbers that are free then are free
 pub slots_stay : (g : Geometry) (bs : List Block) (own new : Owners) (l : ℕ) (b : Block) → ((m : ℕ) → IsFileNumber g m → header_place g m ≢ l)
-    → ((m : ℕ) → IsFileNumber g m → slice_get new.numbers (m - 1) ≡ Some Free → IsBlank (header_block g bs m))
-    → ((m k : ℕ) → IsFileNumber g m → slice_get new.numbers (m - 1) ≡ Some (Outside k) → IsBlank (header_block g bs m)) → HasSlots g bs own → HasSlots g (slice_set bs l b) new
-slots_stay g bs own new l b apart blank outside h =
+    → ((m : ℕ) → IsFileNumber g m → slice_get new.numbers (m - 1) ≡ Some Free → IsBlank (header_block g bs m)) → HasSlots g bs own → HasSlots g (slice_set bs l b) new
+slots_stay g bs own new l b apart blank h =
     let same : (m : ℕ) → IsFileNumber g m → header_block g (slice_set bs l b) m ≡ header_block g bs m = λ m is. get_or-set_other bs l (header_place g m) b [] (apart m is) in
     record {
       heads = λ m is. subst (λ (x : Block). IsHead m (header_read x)) (sym (same m is)) (h.heads m is);
       blank = λ m is e. subst (λ (x : Block). IsBlank x) (sym (same m is)) (blank m is e);
-      outside = λ m k is e. subst (λ (x : Block). IsBlank x) (sym (same m is)) (outside m k is e);
     }
 
--- one that is set in a header slot is the header of its number, and free where the number is free or outside
+-- one that is set in a header slot is the header of its number, and free where the number is free
 pub slots_set : (g : Geometry) (bs : List Block) (own new : Owners) (m : ℕ) (b : Block) → header_place g m < length bs → IsHead m (header_read b) → (slice_get new.numbers (m - 1) ≡ Some Free → IsBlank b)
-    → ((k : ℕ) → slice_get new.numbers (m - 1) ≡ Some (Outside k) → IsBlank b)
     → ((k : ℕ) → slice_get new.numbers k ≡ Some Free → slice_get own.numbers k ≡ Some Free)
-    → ((i k : ℕ) → IsFileNumber g i → i ≢ m → slice_get new.numbers (i - 1) ≡ Some (Outside k) → IsBlank (header_block g bs i))
     → HasSlots g bs own → HasSlots g (slice_set bs (header_place g m) b) new
-slots_set g bs own new m b lt head free out old others h = record {
+slots_set g bs own new m b lt head free old h = record {
   heads = λ k is. at k (λ (x : Block). IsHead k (header_read x)) (λ e. subst (λ (j : ℕ). IsHead j (header_read b)) (sym e) head) (λ ne. h.heads k is);
   blank = λ k is e. at k (λ (x : Block). IsBlank x) (λ same. free (ap (λ j. slice_get new.numbers (j - 1)) (sym same) ∙ e)) (λ ne. h.blank k is (old (k - 1) e));
-  outside = λ i k is e. at i (λ (x : Block). IsBlank x) (λ same. out k (ap (λ j. slice_get new.numbers (j - 1)) (sym same) ∙ e)) (λ ne. others i k is ne e);
 } where
   at : (k : ℕ) (P : Block → Type 0) → (k ≡ m → P b) → (k ≢ m → P (header_block g bs k)) → P (header_block g (slice_set bs (header_place g m) b) k)
   at k P here there = elim (same_or_not k m) [

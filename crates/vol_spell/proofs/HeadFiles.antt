@@ -1,21 +1,19 @@
 -- A file that is there, by its header: its clusters, its blocks, and what the catalogue has of it.
 use Rattle.std.proofs.Common.{false, ◌≡◌, ◌∙◌, ◌≤◌, ◌<◌, ◌+◌, ◌*◌, ◌/◌, ℕ, List, [], Some, length, slice_get, sym, ap, subst, arith, None, cond}
-use Rattle.vol_parts.specs.Volumes.{fields_in, Told}
+use Rattle.vol_parts.specs.Volumes.{fields_in}
 use Rattle.std.proofs.lemmas.Bool.Decides.{nat_tests}
 use Rattle.std.specs.Prelude.{◌↔◌, Ok}
 use Rattle.std.proofs.Math.Nat.{mul-div_cancel}
 use Rattle.std.proofs.lemmas.Option.{slice_get-get_or, slice_get_within}
 use Rattle.base_words.specs.Fields.{Block, IsWholeBlock}
-use Rattle.fx_header.specs.declared.run.Run.{Run}
 use Rattle.fx_header.specs.declared.slot.Hdr.{Hdr}
 use Rattle.fx_header.specs.declared.slot.Slot.TheVariants.{Used}
-use Rattle.fx_header.specs.Headers.{runs_in}
 use Rattle.fx_header.specs.Pointers.{blocks_in, lbns_in}
 use Rattle.fx_header.proofs.SoundLemmas.{reads-sound}
 use Rattle.fx_header.proofs.SetterLemmas.{ends-told}
 use Rattle.plain_cat.specs.declared.cat.Cat.{Cat}
 use Rattle.plain_cat.specs.declared.cat.File.{File}
-use Rattle.plain_rules.specs.Lookups.{file_at, header_most}
+use Rattle.plain_rules.specs.Lookups.{file_at, file_most}
 use Rattle.vol_spell.specs.declared.owner.Owner.TheVariants.{InFile}
 use Rattle.base_words.specs.Lists.{Has, Once}
 use Rattle.vol_spell.specs.Owners.{Owners}
@@ -23,15 +21,15 @@ use Rattle.vol_spell.specs.Spread.{blocks_at, spread}
 use Rattle.vol_spell.proofs.Placing.{spread_places, length-blocks_at}
 use Rattle.vol_parts.specs.declared.geometry.Geometry.{Geometry}
 use Rattle.vol_parts.specs.declared.geometry.Part.TheVariants.{Header}
-use Rattle.vol_parts.specs.Chains.{cut}
 use Rattle.vol_parts.specs.Catalogues.{file_of, is_structure}
-use Rattle.vol_spell.specs.Reading.{IsFileNumber, total_of, header_place, header_block, head_told, clusters_told, body_blocks, told_of, alone}
-use Rattle.vol_spell.specs.Spelling.{IsHead, AreWhole, size_in, Spells, dir_found}
+use Rattle.vol_spell.specs.Reading.{IsFileNumber, total_of, header_place, header_block, head_told, clusters_told, body_blocks, told_of}
+use Rattle.vol_spell.specs.Spelling.{IsHead, size_in, Spells, dir_found}
 use Rattle.vol_spell.proofs.Heads.{first_reads, first_segment}
 use Rattle.vol_spell.proofs.Parts.{told, part_owned, low}
 use Rattle.vol_spell.proofs.Frames.{on_volume}
 use Rattle.vol_spell.proofs.Runs.{lbns_spread, size_of_runs}
-use Rattle.vol_spell.proofs.HeadSlots.{reads_fields, alone_told, alone_runs, listed_enough, one_header_each, file_told_at, file_blocks}
+use Rattle.vol_spell.specs.Files.{blocks_told}
+use Rattle.vol_spell.proofs.HeadSlots.{reads_fields, file_told_at}
 
 module _ (g : Geometry) (bs : List Block) (own : Owners) (x : Cat) (n : ℕ) (h : Hdr) (spelt : Spells g bs own x) (is : IsFileNumber g n) (reads : head_told (header_block g bs n) ≡ Ok (Used h)) where
   abbrev b : Block
@@ -49,17 +47,6 @@ module _ (g : Geometry) (bs : List Block) (own : Owners) (x : Cat) (n : ℕ) (h 
   head_whole =
       let len = on_volume g bs own x spelt (header_place g n) (InFile 1) (part_owned g bs own x spelt (Header n) is) in
       spelt.whole (header_place g n) b (slice_get-get_or bs (header_place g n) [] len)
-
-  -- the file has one header
-  pub told_eq : told_of g bs n ≡ alone n h (header_block g bs n)
-  told_eq = alone_told g bs own x spelt n h is reads
-
-  -- it lists all blocks of the file
-  pub enough : h.blocks ≤ blocks_in (runs_in (header_block g bs n))
-  enough = listed_enough g bs own x spelt n h is reads
-
-  pub runs_whole : AreWhole g (cut h.blocks (runs_in (header_block g bs n)))
-  runs_whole = subst (λ (t : Told). AreWhole g t.runs) told_eq (told g bs own x spelt n is).whole
 
   pub once : Once (clusters_told g (told_of g bs n))
   once = (told g bs own x spelt n is).once
@@ -101,9 +88,9 @@ module _ (g : Geometry) (bs : List Block) (own : Owners) (x : Cat) (n : ℕ) (h 
   -- the catalogue's file
   pub file_is : (f : File) → file_at x n ≡ Some f → f ≡ file_of g.cluster n h (blocks_at bs (spread g.cluster (clusters_told g (told_of g bs n))))
   file_is f at =
-      let a : file_at x n ≡ Some (file_of g.cluster n h (file_blocks bs b)) = file_told_at g bs own x spelt n h is reads in
-      let e : file_blocks bs b ≡ shown = ap (λ (rs : List Run). blocks_at bs (lbns_in rs)) (sym (alone_runs g bs own x spelt n is)) ∙ ap (blocks_at bs) places_are in
-      (let both : Some f ≡ Some (file_of g.cluster n h (file_blocks bs b)) = sym at ∙ a in let same : f ≡ file_of g.cluster n h (file_blocks bs b) = cc in same) ∙ ap (file_of g.cluster n h) e
+      let a : file_at x n ≡ Some (file_of g.cluster n h (blocks_told g bs n)) = file_told_at g bs own x spelt n h is reads in
+      (let both : Some f ≡ Some (file_of g.cluster n h (blocks_told g bs n)) = sym at ∙ a in let same : f ≡ file_of g.cluster n h (blocks_told g bs n) = cc in same)
+      ∙ ap (λ (ls : List ℕ). file_of g.cluster n h (blocks_at bs ls)) places_are
 
   -- its end and its mark are at most one block behind its blocks
   pub end_within : h.end ≤ h.blocks + 1
@@ -115,16 +102,20 @@ module _ (g : Geometry) (bs : List Block) (own : Owners) (x : Cat) (n : ℕ) (h 
   pub mark_within : h.mark ≤ h.blocks + 1
   mark_within = ((ends-told b h (reads-sound b h (first_reads b h reads))).0 (first_segment b h reads)).1
 
-  -- above the system files it has no more clusters than a header lists
-  pub few : 11 < n → length (clusters_told g (told_of g bs n)) ≤ header_most
-  few above = one_header_each (length (clusters_told g (told_of g bs n))) ((told g bs own x spelt n is).few above)
+  -- above the system files it has no more clusters than a file may have
+  pub few : 11 < n → length (clusters_told g (told_of g bs n)) ≤ file_most
+  few above = (told g bs own x spelt n is).few above
+
+  -- its blocks as they are told
+  pub body_shown : is_structure n ≡ false → body_blocks bs n (told_of g bs n) ≡ blocks_at bs (spread g.cluster (clusters_told g (told_of g bs n)))
+  body_shown plain = ap (λ t. blocks_at bs (cond t [] (lbns_in (told_of g bs n).runs))) plain ∙ ap (blocks_at bs) places_are
 
   -- a directory can be read
-  pub dir_read : is_structure n ≡ false → dir_found g n (Some h) (alone n h (header_block g bs n)) (blocks_at bs (spread g.cluster (clusters_told g (told_of g bs n)))) ≡ None
+  pub dir_read : is_structure n ≡ false → dir_found g n (Some h) (told_of g bs n) (blocks_at bs (spread g.cluster (clusters_told g (told_of g bs n)))) ≡ None
   dir_read plain =
-      let body : body_blocks bs n (told_of g bs n) ≡ shown = ap (λ t. blocks_at bs (cond t [] (lbns_in (told_of g bs n).runs))) plain ∙ ap (blocks_at bs) places_are in
-      subst (λ (blocks : List Block). dir_found g n (Some h) (alone n h (header_block g bs n)) blocks ≡ None) body
-      (subst (λ (t : Told). dir_found g n (fields_in t.head) t (body_blocks bs n (told_of g bs n)) ≡ None) told_eq (told g bs own x spelt n is).dir)
+      ap (dir_found g n (Some h) (told_of g bs n)) (sym (body_shown plain))
+      ∙ ap (λ r. dir_found g n (fields_in r) (told_of g bs n) (body_blocks bs n (told_of g bs n))) (sym reads)
+      ∙ (told g bs own x spelt n is).dir
 
 -- a number above those of the system files
 pub not_structure : (n : ℕ) → 11 < n → is_structure n ≡ false

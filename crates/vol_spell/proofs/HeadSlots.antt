@@ -1,13 +1,11 @@
 -- What a header tells of the catalogue that the blocks spell.
-use Rattle.std.proofs.Common.{◌≡◌, ◌≤◌, ◌<◌, ◌+◌, ◌-◌, ◌*◌, ◌/◌, ◌∙◌, ℕ, Bool, true, false, cond, List, ◌∷◌, Option, Some, None, length, slice_get, get_or, refl, sym, ap, subst, inl, inr, arith}
+use Rattle.std.proofs.Common.{◌≡◌, ◌≤◌, ◌<◌, ◌+◌, ◌-◌, ◌*◌, ◌/◌, ◌∙◌, ℕ, Bool, true, false, cond, List, [], ◌∷◌, Option, Some, None, length, slice_get, refl, sym, ap, subst, arith}
 use Rattle.std.specs.Prelude.{◌==◌, ◌&&◌, not, option_map, Result, Ok, Err, if◌then◌else◌}
 use Rattle.std.specs.List.{range_with_len}
 use Rattle.std.proofs.lemmas.Bool.Decides.{nat_tests}
 use Rattle.std.proofs.lemmas.Option.{slice_get-map}
 use Rattle.std.proofs.lemmas.Nat.{div-mul-add}
 use Rattle.base_words.specs.Fields.{Block}
-use Rattle.base_words.specs.Lists.{Has}
-use Rattle.fx_header.specs.declared.run.Run.{Run}
 use Rattle.fx_header.specs.declared.slot.Hdr.{Hdr}
 use Rattle.fx_header.specs.declared.slot.HeaderFault.{HeaderFault}
 use Rattle.fx_header.specs.declared.slot.Slot.{Slot as Head}
@@ -17,21 +15,20 @@ use Rattle.fx_header.specs.Pointers.{blocks_in, lbns_in}
 use Rattle.fx_dir.specs.Directory.{directory}
 use Rattle.plain_cat.specs.declared.cat.Cat.{Cat}
 use Rattle.plain_cat.specs.declared.cat.File.{File}
-use Rattle.plain_cat.specs.declared.cat.Slot.TheVariants as slot
 use Rattle.plain_rules.specs.Lookups.{slot_at, file_in, file_at}
 use Rattle.vol_parts.specs.declared.geometry.Geometry.{Geometry}
 use Rattle.vol_parts.specs.declared.finding.Finding.TheVariants as finding
 use Rattle.vol_parts.specs.Chains.{as_first, cut}
 use Rattle.vol_parts.specs.Fatal.{is_one_header, has_dir_size, found_in}
-use Rattle.vol_parts.specs.Volumes.{fields_in, Told, chain_from}
+use Rattle.vol_parts.specs.Volumes.{fields_in, Told}
 use Rattle.vol_parts.specs.Catalogues.{slot_with, slot_of, files_of, file_of}
 use Rattle.vol_spell.specs.Owners.{Owners}
-use Rattle.vol_spell.specs.Reading.{IsFileNumber, volume_of, header_block, headers_at, head_told, told_of, fields_told, alone, runs_first, runs_told, clusters_told, body_blocks}
+use Rattle.vol_spell.specs.Reading.{IsFileNumber, volume_of, header_block, head_told, told_of, fields_told, alone, runs_first, runs_told, clusters_told, body_blocks}
 use Rattle.vol_spell.specs.Spelling.{dir_found, size_in, has_one_at_most, Spells}
 use Rattle.vol_spell.specs.Spread.{blocks_at}
-use Rattle.vol_spell.proofs.Heads.{first_reads, used_first}
-pub use Rattle.vol_spell.proofs.OneHeader.{one_header_each}
-use Rattle.vol_spell.proofs.OneHeader.{tells_slot, told_slot, told_alone, alone_enough, alone_whole}
+use Rattle.vol_spell.specs.Files.{blocks_told}
+use Rattle.vol_spell.proofs.Heads.{first_reads}
+use Rattle.vol_spell.proofs.OneHeader.{one_slot, told_alone, alone_enough, alone_whole}
 use Rattle.vol_spell.proofs.Parts.{told}
 use Rattle.vol_spell.proofs.Runs.{size_of_runs}
 use Rattle.vol_spell.proofs.Told.{told_by, slot_there_of}
@@ -65,11 +62,47 @@ dir_alone g n f t blocks dir none =
     by_one true b e = refl
     by_one false b e = absurd (cc)
 
--- the file's blocks by its header
-abbrev pub file_blocks : List Block → Block → List Block
-file_blocks bs b = blocks_at bs (lbns_in (runs_told b))
+-- what is told of a file of one header is told by this header
+pub alone_told : (g : Geometry) (bs : List Block) (n : ℕ) (h : Hdr) → head_told (header_block g bs n) ≡ Ok (head.Used h) → (told_of g bs n).slots ≡ n ∷ [] → told_of g bs n ≡ alone n h (header_block g bs n)
+alone_told g bs n h e one = told_alone g bs n h (reads_fields (header_block g bs n) h e) one
+
+-- its runs are the first of those that this header lists
+pub alone_runs : (g : Geometry) (bs : List Block) (n : ℕ) (h : Hdr) → head_told (header_block g bs n) ≡ Ok (head.Used h) → (told_of g bs n).slots ≡ n ∷ [] → (told_of g bs n).runs ≡ runs_told (header_block g bs n)
+alone_runs g bs n h e one = ap (λ (t : Told). t.runs) (alone_told g bs n h e one) ∙ sym (reads_runs (header_block g bs n) h e)
 
 module _ (g : Geometry) (bs : List Block) (own : Owners) (c : Cat) (s : Spells g bs own c) where
+  -- a system file has one header, which lists just its blocks
+  pub system_slot : (n : ℕ) (h : Hdr) → IsFileNumber g n → head_told (header_block g bs n) ≡ Ok (head.Used h) → n ≤ 11 → (told_of g bs n).slots ≡ n ∷ []
+  system_slot n h is e low = one_slot g bs n h (reads_fields (header_block g bs n) h e) ((told g bs own c s n is).system low)
+
+  pub system_one : (n : ℕ) (h : Hdr) → IsFileNumber g n → head_told (header_block g bs n) ≡ Ok (head.Used h) → n ≤ 11 → is_one_header h (alone n h (header_block g bs n)) ≡ true
+  system_one n h is e low =
+      subst (λ (t : Told). has_one_at_most (fields_in t.head) t ≡ true) (alone_told g bs n h e (system_slot n h is e low)) ((told g bs own c s n is).system low)
+
+  pub system_runs : (n : ℕ) (h : Hdr) → IsFileNumber g n → head_told (header_block g bs n) ≡ Ok (head.Used h) → n ≤ 11 → (told_of g bs n).runs ≡ runs_in (header_block g bs n)
+  system_runs n h is e low = ap (λ (t : Told). t.runs) (alone_told g bs n h e (system_slot n h is e low)) ∙ alone_whole n h (header_block g bs n) (system_one n h is e low)
+
+  -- and so has a directory
+  pub dir_slot : (n : ℕ) (h : Hdr) → IsFileNumber g n → head_told (header_block g bs n) ≡ Ok (head.Used h) → h.dir ≡ true → (told_of g bs n).slots ≡ n ∷ []
+  dir_slot n h is e dir = one_slot g bs n h (reads_fields (header_block g bs n) h e) (ap (λ r. has_one_at_most (fields_in r) (told_of g bs n)) e ∙ one) where
+    one : is_one_header h (told_of g bs n) ≡ true
+    one =
+        dir_alone g n h (told_of g bs n) (body_blocks bs n (told_of g bs n)) dir
+        (ap (λ r. dir_found g n (fields_in r) (told_of g bs n) (body_blocks bs n (told_of g bs n))) (sym e) ∙ (told g bs own c s n is).dir)
+
+  pub dir_one : (n : ℕ) (h : Hdr) → IsFileNumber g n → head_told (header_block g bs n) ≡ Ok (head.Used h) → h.dir ≡ true → is_one_header h (alone n h (header_block g bs n)) ≡ true
+  dir_one n h is e dir =
+      dir_alone g n h (alone n h (header_block g bs n)) (body_blocks bs n (told_of g bs n)) dir
+      (subst (λ (t : Told). dir_found g n (fields_in t.head) t (body_blocks bs n (told_of g bs n)) ≡ None) (alone_told g bs n h e (dir_slot n h is e dir)) (told g bs own c s n is).dir)
+
+  pub dir_runs : (n : ℕ) (h : Hdr) → IsFileNumber g n → head_told (header_block g bs n) ≡ Ok (head.Used h) → h.dir ≡ true → (told_of g bs n).runs ≡ runs_in (header_block g bs n)
+  dir_runs n h is e dir = ap (λ (t : Told). t.runs) (alone_told g bs n h e (dir_slot n h is e dir)) ∙ alone_whole n h (header_block g bs n) (dir_one n h is e dir)
+
+  -- one header lists all blocks of its file
+  pub listed_enough : (n : ℕ) (h : Hdr) → IsFileNumber g n → head_told (header_block g bs n) ≡ Ok (head.Used h) → (told_of g bs n).slots ≡ n ∷ [] → h.blocks ≤ blocks_in (runs_in (header_block g bs n))
+  listed_enough n h is e one =
+      alone_enough h (header_block g bs n) (subst (λ (t : Told). blocks_in t.runs ≡ size_in (fields_in t.head)) (alone_told g bs n h e one) (told g bs own c s n is).size)
+
   listed_slot : (n : ℕ) → IsFileNumber g n → slice_get (files_of (volume_of g bs)) (n - 1) ≡ Some (slot_of (volume_of g bs) n)
   unfolding files_of
   listed_slot n is =
@@ -79,75 +112,28 @@ module _ (g : Geometry) (bs : List Block) (own : Owners) (c : Cat) (s : Spells g
       let lt : n - 1 < g.files = omega arith in
       slice_get-map (slot_of (volume_of g bs)) (range_with_len 1 g.files) (n - 1) ∙ ap (option_map (slot_of (volume_of g bs))) (get_range 1 g.files (n - 1) lt ∙ ap (λ x. Some x) e)
 
-  -- the slot of a number, by what is told of its file
-  slot_told : (n : ℕ) → IsFileNumber g n → slot_at c n ≡ Some (slot_with g.cluster n (told_of g bs n).head (blocks_at bs (lbns_in (told_of g bs n).runs)))
-  slot_told n is =
+  -- the slot of a number, by the block of its first header
+  pub slot_is : (n : ℕ) → IsFileNumber g n → slot_at c n ≡ Some (slot_with g.cluster n (head_told (header_block g bs n)) (blocks_told g bs n))
+  slot_is n is =
       let t = told_by g bs own c s in
       let a = is.from in
       let z : (n == 0) ≡ false = grind (arith, nat_tests) in
       ap (λ x. cond x None (slice_get c.files (n - 1))) z ∙ ap (λ xs. slice_get xs (n - 1)) t.files ∙ listed_slot n is
       ∙ ap (λ x. Some x) (slot_there_of (volume_of g bs) n (told_of g bs n) (blocks_at bs (lbns_in (told_of g bs n).runs)) (t.told n is) (t.bodies n is))
 
-  -- a file has one header
-  pub alone_told : (n : ℕ) (h : Hdr) → IsFileNumber g n → head_told (header_block g bs n) ≡ Ok (head.Used h) → told_of g bs n ≡ alone n h (header_block g bs n)
-  alone_told n h is e =
-      let used = reads_fields (header_block g bs n) h e in
-      told_alone g bs n h used
-      (tells_slot g own bs n h (body_blocks bs n (told_of g bs n)) (get_or c.files (n - 1) (slot.Free 0)) s.counts.geometry.cluster_from (told g bs own c s n is) used)
-
-  -- which lists all of its blocks
-  pub listed_enough : (n : ℕ) (h : Hdr) → IsFileNumber g n → head_told (header_block g bs n) ≡ Ok (head.Used h) → h.blocks ≤ blocks_in (runs_in (header_block g bs n))
-  listed_enough n h is e =
-      alone_enough h (header_block g bs n) (subst (λ (t : Told). blocks_in t.runs ≡ size_in (fields_in t.head)) (alone_told n h is e) (told g bs own c s n is).size)
-
-  -- its runs are the first of those that this header lists
-  pub alone_runs : (n : ℕ) → IsFileNumber g n → (told_of g bs n).runs ≡ runs_told (header_block g bs n)
-  alone_runs n is = by_fields (fields_told (header_block g bs n)) refl where
-    by_fields : (o : Option Hdr) → fields_told (header_block g bs n) ≡ o → (told_of g bs n).runs ≡ runs_told (header_block g bs n)
-    by_fields None e = ap (λ o. (chain_from (headers_at g bs) n o).runs) e ∙ ap (λ o. runs_first o (header_block g bs n)) (sym e)
-    by_fields (Some h) e = ap (λ (t : Told). t.runs) (alone_told n h is (used_first (header_block g bs n) h e)) ∙ ap (λ o. runs_first o (header_block g bs n)) (sym e)
-
-  -- that of a system file lists just these
-  pub system_one : (n : ℕ) (h : Hdr) → IsFileNumber g n → head_told (header_block g bs n) ≡ Ok (head.Used h) → n ≤ 11 → is_one_header h (alone n h (header_block g bs n)) ≡ true
-  system_one n h is e low = subst (λ (t : Told). has_one_at_most (fields_in t.head) t ≡ true) (alone_told n h is e) ((told g bs own c s n is).system low)
-
-  pub system_runs : (n : ℕ) (h : Hdr) → IsFileNumber g n → head_told (header_block g bs n) ≡ Ok (head.Used h) → n ≤ 11 → (told_of g bs n).runs ≡ runs_in (header_block g bs n)
-  system_runs n h is e low = ap (λ (t : Told). t.runs) (alone_told n h is e) ∙ alone_whole n h (header_block g bs n) (system_one n h is e low)
-
-  -- and so does that of a directory
-  pub dir_one : (n : ℕ) (h : Hdr) → IsFileNumber g n → head_told (header_block g bs n) ≡ Ok (head.Used h) → h.dir ≡ true → is_one_header h (alone n h (header_block g bs n)) ≡ true
-  dir_one n h is e dir =
-      dir_alone g n h (alone n h (header_block g bs n)) (body_blocks bs n (told_of g bs n)) dir
-      (subst (λ (t : Told). dir_found g n (fields_in t.head) t (body_blocks bs n (told_of g bs n)) ≡ None) (alone_told n h is e) (told g bs own c s n is).dir)
-
-  pub dir_runs : (n : ℕ) (h : Hdr) → IsFileNumber g n → head_told (header_block g bs n) ≡ Ok (head.Used h) → h.dir ≡ true → (told_of g bs n).runs ≡ runs_in (header_block g bs n)
-  dir_runs n h is e dir = ap (λ (t : Told). t.runs) (alone_told n h is e) ∙ alone_whole n h (header_block g bs n) (dir_one n h is e dir)
-
-  -- and the header slot of its number alone
-  pub alone_slot : (n m : ℕ) → IsFileNumber g n → Has (n ∷ (told_of g bs n).slots) m → n ≡ m
-  alone_slot n m is t = elim t [
-    | inl e ↦ e
-    | inr u ↦ told_slot g own bs n (body_blocks bs n (told_of g bs n)) (get_or c.files (n - 1) (slot.Free 0)) m s.counts.geometry.cluster_from (told g bs own c s n is) u
-  ]
-
-  -- so the slot of a number, by its block
-  pub slot_is : (n : ℕ) → IsFileNumber g n → slot_at c n ≡ Some (slot_with g.cluster n (head_told (header_block g bs n)) (file_blocks bs (header_block g bs n)))
-  slot_is n is =
-      slot_told n is ∙ ap (λ (rs : List Run). Some (slot_with g.cluster n (head_told (header_block g bs n)) (blocks_at bs (lbns_in rs)))) (alone_runs n is)
-
   -- the file of a number whose header is in use
-  pub file_told_at : (n : ℕ) (h : Hdr) → IsFileNumber g n → head_told (header_block g bs n) ≡ Ok (head.Used h) → file_at c n ≡ Some (file_of g.cluster n h (file_blocks bs (header_block g bs n)))
-  file_told_at n h is e = ap file_in (slot_is n is) ∙ ap (λ r. file_in (Some (slot_with g.cluster n r (file_blocks bs (header_block g bs n))))) e
+  pub file_told_at : (n : ℕ) (h : Hdr) → IsFileNumber g n → head_told (header_block g bs n) ≡ Ok (head.Used h) → file_at c n ≡ Some (file_of g.cluster n h (blocks_told g bs n))
+  file_told_at n h is e = ap file_in (slot_is n is) ∙ ap (λ r. file_in (Some (slot_with g.cluster n r (blocks_told g bs n)))) e
 
   -- the header of a number that has a file is its first one
   pub file_first : (n : ℕ) (h : Hdr) (f : File) → IsFileNumber g n → header_read (header_block g bs n) ≡ Ok (head.Used h) → file_at c n ≡ Some f → head_told (header_block g bs n) ≡ Ok (head.Used h)
   file_first n h f is e at = by_head (head_told (header_block g bs n)) refl (ap file_in (sym (slot_is n is)) ∙ at) where
-    by_head : (r : Result Head HeaderFault) → head_told (header_block g bs n) ≡ r → file_in (Some (slot_with g.cluster n (head_told (header_block g bs n)) (file_blocks bs (header_block g bs n)))) ≡ Some f
+    by_head : (r : Result Head HeaderFault) → head_told (header_block g bs n) ≡ r → file_in (Some (slot_with g.cluster n (head_told (header_block g bs n)) (blocks_told g bs n))) ≡ Some f
         → head_told (header_block g bs n) ≡ Ok (head.Used h)
     by_head (Ok (head.Used x)) is_head file =
         let both : ◌≡◌ {A = Result Head HeaderFault} (Ok (head.Used x)) (Ok (head.Used h)) = sym (first_reads (header_block g bs n) x is_head) ∙ e in
         is_head ∙ both
-    by_head (Ok (head.Free seq)) is_head file = absurd (no_file (ap (λ r. file_in (Some (slot_with g.cluster n r (file_blocks bs (header_block g bs n))))) (sym is_head) ∙ file)) where
+    by_head (Ok (head.Free seq)) is_head file = absurd (no_file (ap (λ r. file_in (Some (slot_with g.cluster n r (blocks_told g bs n)))) (sym is_head) ∙ file)) where
       no_file : ◌≡◌ {A = Option File} None (Some f) → ⊥
       no_file q = cc
     by_head (Err fault) is_head file = absurd (let q : header_read (header_block g bs n) ≡ Err fault = err_first (header_read (header_block g bs n)) fault is_head in let both : ◌≡◌ {A = Result Head HeaderFault} (Ok (head.Used h)) (Err fault) = sym e ∙ q in cc)

@@ -1,5 +1,5 @@
 -- A block that reads as a file's header, with these clusters.
-use Rattle.std.proofs.Common.{◌≡◌, ◌∙◌, ◌≤◌, ◌<◌, ◌+◌, ◌-◌, ℕ, true, false, List, [], Some, None, length, slice_get, is_some, refl, sym, ap, subst, arith, cond, inl, inr}
+use Rattle.std.proofs.Common.{◌≡◌, ◌∙◌, ◌≤◌, ◌<◌, ◌+◌, ◌-◌, ℕ, true, false, List, [], ◌∷◌, Some, None, length, slice_get, is_some, refl, sym, ap, subst, arith, cond, inl, inr}
 use Rattle.std.specs.Prelude.{◌↔◌, Ok}
 use Rattle.base_words.specs.Fields.{Block, IsWholeBlock}
 use Rattle.fx_header.specs.declared.slot.Hdr.{Hdr}
@@ -11,7 +11,7 @@ use Rattle.plain_cat.specs.declared.cat.File.{File}
 use Rattle.plain_cat.specs.declared.cat.Slot.{Slot}
 use Rattle.plain_cat.specs.declared.cat.Slot.TheVariants as slot
 use Rattle.plain_rules.specs.Lookups.{clusters_in, header_most}
-use Rattle.vol_spell.specs.declared.owner.Owner.TheVariants.{InFile, Outside}
+use Rattle.vol_spell.specs.declared.owner.Owner.TheVariants.{InFile}
 use Rattle.base_words.specs.Lists.{Has, Once}
 use Rattle.vol_spell.specs.Owners.{Owners, OwnersMove, IsFileMove}
 use Rattle.vol_spell.specs.Spread.{blocks_at, spread}
@@ -21,7 +21,7 @@ use Rattle.vol_parts.specs.Chains.{cut}
 use Rattle.vol_parts.specs.Fatal.{is_one_header}
 use Rattle.vol_parts.specs.Volumes.{Told}
 use Rattle.vol_parts.specs.Catalogues.{is_structure, file_of}
-use Rattle.vol_spell.specs.Reading.{IsFileNumber, header_place, header_block, head_told, alone, clusters_of, body_places, body_blocks}
+use Rattle.vol_spell.specs.Reading.{IsFileNumber, header_place, header_block, head_told, told_of, alone, clusters_of, body_places, body_blocks}
 use Rattle.vol_spell.specs.Spelling.{IsHead, AreWhole, Tells, dir_found, Spells}
 use Rattle.vol_spell.specs.Kinds.{IsHeaderFor}
 use Rattle.vol_spell.proofs.Heads.{first_reads}
@@ -55,14 +55,14 @@ pub record IsFileWith (g : Geometry) (bs : List Block) (own new : Owners) (x : C
   pub reserved : (old : Slot) → n ≤ 11 → slice_get x.files (n - 1) ≡ Some old → clusters_in (slot.Used f) ≡ clusters_in old
 
 module _ (g : Geometry) (bs : List Block) (own new : Owners) (x : Cat) (node n : ℕ) (b : Block) (h : Hdr) (ds : List ℕ) (f : File) (spelt : Spells g bs own x) (is : IsFileNumber g n) (plain : is_structure n ≡ false)
-    (old : Hdr) (was : head_told (header_block g bs n) ≡ Ok (head.Used old)) (at : IsHeadWith g n b h ds) (with : IsFileWith g bs own new x node n b h ds f) where
+    (old : Hdr) (was : head_told (header_block g bs n) ≡ Ok (head.Used old)) (one : (told_of g bs n).slots ≡ n ∷ []) (at : IsHeadWith g n b h ds) (with : IsFileWith g bs own new x node n b h ds f) where
   places_eq : body_places n (alone n h b) ≡ spread g.cluster ds
   places_eq = ap (λ t. cond t [] (lbns_in (cut h.blocks (runs_in b)))) plain ∙ lbns_spread g (cut h.blocks (runs_in b)) (low g bs own x spelt) at.runs ∙ ap (spread g.cluster) at.clusters
 
   body_eq : body_blocks bs n (alone n h b) ≡ blocks_at bs (spread g.cluster ds)
   body_eq = ap (blocks_at bs) places_eq
 
-  -- its number is the file's, and the file has no other
+  -- its number is the file's, and the file, which has one header, has no other
   numbered : slice_get own.numbers (n - 1) ≡ Some (InFile n)
   numbered = (in_use g bs own x spelt n is).0 (ap is_some (reads_fields (header_block g bs n) old was))
 
@@ -70,7 +70,7 @@ module _ (g : Geometry) (bs : List Block) (own new : Owners) (x : Cat) (node n :
   only_number m number e =
       let low = number.from in
       let back : m - 1 + 1 ≡ m = omega arith in
-      own_number g bs own x spelt (m - 1) n ((with.numbers (m - 1)).0 e) ∙ back
+      own_number g bs own x spelt (m - 1) n one ((with.numbers (m - 1)).0 e) ∙ back
 
   few_listed : 11 < n → length (clusters_of g.cluster (cut h.blocks (runs_in b))) ≤ header_most
   few_listed above = subst (λ (ls : List ℕ). length ls ≤ header_most) (sym at.clusters) (with.few above)
@@ -109,7 +109,5 @@ module _ (g : Geometry) (bs : List Block) (own new : Owners) (x : Cat) (node n :
         plain = plain;
         moves = with.moves;
         tells = subst (λ (z : Told). Tells g new n z (body_blocks bs n z) (slot.Used f)) (sym (alone_set g bs n b h len at.reads at.enough)) tells;
-        lost = λ i at mine gone. absurd (gone ((with.numbers (i - 1)).1 mine));
-        outside = λ k e. absurd (let both : Some (InFile n) ≡ Some (Outside k) = sym ((with.numbers (n - 1)).1 numbered) ∙ e in cc);
         reserved = with.reserved;
       }

@@ -1,5 +1,5 @@
 -- The kinds of writes.
-use Rattle.std.proofs.Common.{◌≡◌, ◌≢◌, ◌<◌, ◌+◌, ◌*◌, ◌-◌, ◌/◌, ℕ, zero, suc, Bool, true, false, List, [], ◌∷◌, Option, Some, None, length, map, slice_get, slice_set, refl, sym, ap, subst, ◌∙◌, inl, inr, arith, length-set, cond, get_or-set_other}
+use Rattle.std.proofs.Common.{◌≡◌, ◌≢◌, ◌<◌, ◌+◌, ◌*◌, ◌-◌, ◌/◌, ℕ, zero, suc, Bool, true, false, List, [], ◌∷◌, Option, Some, length, map, slice_get, slice_set, refl, sym, ap, subst, ◌∙◌, inl, inr, arith, length-set, cond}
 use Rattle.std.specs.Prelude.{◌↔◌, ◌==◌, count_by, Result, Ok, Err}
 use Rattle.base_words.specs.Fields.{Block, IsWholeBlock, AreWholeBlocks}
 use Rattle.fx_header.specs.declared.slot.Slot.{Slot as Head}
@@ -85,7 +85,7 @@ module _ (g : Geometry) (bs : List Block) (own : Owners) (c : Cat) (s : Spells g
             (λ n st. told_apart g bs own c s l b heads n (structure_number g bs own c s n st)) s.structures;
         constants = s.constants;
         files = λ n x is h. file_stays g own bs l b n x (heads_apart g bs own c s n l is heads) (away_by g bs own c s n l (Outside node) is at (λ p e. absurd (cc))) (s.files n x is h);
-        slots = slots_stay g bs own own l b heads s.slots.blank s.slots.outside s.slots;
+        slots = slots_stay g bs own own l b heads s.slots.blank s.slots;
         rows = record {
           quota = s.rows.quota ∙ ap rows_sorted (sym rows);
           once = subst P (sym rows) s.rows.once;
@@ -119,7 +119,7 @@ module _ (g : Geometry) (bs : List Block) (own : Owners) (c : Cat) (s : Spells g
             (λ n st. told_apart g bs own c s l b heads n (structure_number g bs own c s n st)) s.structures;
         constants = record { factor = s.constants.factor; total = s.constants.total; reserved = s.constants.reserved; rows = s.constants.rows };
         files = λ n x is h. file_stays g own bs l b n x (heads_apart g bs own c s n l is heads) (away_by g bs own c s n l (InFile 10) is at (λ p. other_file 10 n refl p)) (s.files n x is h);
-        slots = slots_stay g bs own own l b heads s.slots.blank s.slots.outside s.slots;
+        slots = slots_stay g bs own own l b heads s.slots.blank s.slots;
         rows = record {
           quota = refl;
           once = once;
@@ -160,7 +160,7 @@ module _ (g : Geometry) (bs : List Block) (own : Owners) (c : Cat) (s : Spells g
         constants = s.constants;
         files = λ n x is h. tells_on g own new n _ _ x (owner_stays (IsSpaceMove node) own.clusters new.clusters (Some (InFile n)) moves (λ f. f)) (λ i. number_same new i (InFile n) same)
             (file_stays g own bs l b n x (heads_apart g bs own c s n l is heads) (away_by g bs own c s n l (InFile 2) is at (λ p. other_file 2 n refl p)) (s.files n x is h));
-        slots = slots_stay g bs own new l b heads (λ m is e. s.slots.blank m is ((number_same new (m - 1) Free same).0 e)) (λ m k is e. s.slots.outside m k is ((number_same new (m - 1) (Outside k) same).0 e)) s.slots;
+        slots = slots_stay g bs own new l b heads (λ m is e. s.slots.blank m is ((number_same new (m - 1) Free same).0 e)) s.slots;
         rows = record {
           quota = s.rows.quota ∙ ap rows_sorted (sym rows);
           once = subst P (sym rows) s.rows.once;
@@ -176,28 +176,6 @@ module _ (g : Geometry) (bs : List Block) (own : Owners) (c : Cat) (s : Spells g
       } where
         number_same : (new : Owners) (i : ℕ) (o : Owner) → new.numbers ≡ own.numbers → (slice_get new.numbers i ≡ Some o) ↔ (slice_get own.numbers i ≡ Some o)
         number_same new i o e = let h : slice_get new.numbers i ≡ slice_get own.numbers i = ap (λ xs. slice_get xs i) e in ((λ t. sym h ∙ t), (λ t. h ∙ t))
-
-  -- a number that such a write may move has a free slot
-  was_spare : (node n : ℕ) → IsFileNumber g n → IsSpaceMove node (slice_get own.numbers (n - 1)) → IsBlank (header_block g bs n)
-  was_spare node n is may = by_owner (slice_get own.numbers (n - 1)) refl may where
-    by_owner : (o : Option Owner) → slice_get own.numbers (n - 1) ≡ o → IsSpaceMove node o → IsBlank (header_block g bs n)
-    by_owner None e may = absurd may
-    by_owner (Some Free) e may = s.slots.blank n is e
-    by_owner (Some (InFile i)) e may = absurd may
-    by_owner (Some (Outside k)) e may = s.slots.outside n k is e
-    by_owner (Some Leaked) e may = absurd may
-
-  -- and so has one that is outside after it
-  was_outside : (new : Owners) (node : ℕ) → Moves (IsSpaceMove node) own.numbers new.numbers → (n k : ℕ) → IsFileNumber g n → slice_get new.numbers (n - 1) ≡ Some (Outside k) → IsBlank (header_block g bs n)
-  was_outside new node moves n k is now = elim (moves.each (n - 1)) [ inl same ↦ s.slots.outside n k is (sym same ∙ now) | inr m ↦ was_spare node n is m.0 ]
-
-  -- numbers that become free by such a write have free slots
-  pub freed_blank : (new : Owners) (node : ℕ) → Moves (IsSpaceMove node) own.numbers new.numbers → (n : ℕ) → IsFileNumber g n → slice_get own.numbers (n - 1) ≢ Some Free → slice_get new.numbers (n - 1) ≡ Some Free
-      → IsBlank (header_block g bs n)
-  freed_blank new node moves n is was now = elim (moves.each (n - 1)) [
-    | inl same ↦ absurd (was (sym same ∙ now))
-    | inr m ↦ was_spare node n is m.0
-  ]
 
   pub index_write_lem : (new : Owners) (node l : ℕ) (b : Block) → IsWholeBlock b → part_of g l ≡ Some IndexBitmap → new.clusters ≡ own.clusters → Moves (IsSpaceMove node) own.numbers new.numbers
       → ((n : ℕ) → IsFileNumber g n → (number_bit g (slice_set bs l b) n ≡ false) ↔ (slice_get new.numbers (n - 1) ≡ Some Free))
@@ -225,7 +203,7 @@ module _ (g : Geometry) (bs : List Block) (own : Owners) (c : Cat) (s : Spells g
         constants = s.constants;
         files = λ n x is h. tells_on g own new n _ _ x (λ q. cluster_same new q (InFile n) same) (owner_stays (IsSpaceMove node) own.numbers new.numbers (Some (InFile n)) moves (λ f. f))
             (file_stays g own bs l b n x (heads_apart g bs own c s n l is other) (away_by g bs own c s n l (InFile 1) is at (λ p. other_file 1 n refl p)) (s.files n x is h));
-        slots = slots_stay g bs own new l b other (λ m is e. was_blank m is e (number_bit g bs m) refl) (λ m k is e. was_outside new node moves m k is e) s.slots;
+        slots = slots_stay g bs own new l b other (λ m is e. was_blank m is e (number_bit g bs m) refl) s.slots;
         rows = record {
           quota = s.rows.quota ∙ ap rows_sorted (sym rows);
           once = subst P (sym rows) s.rows.once;
@@ -274,22 +252,6 @@ module _ (g : Geometry) (bs : List Block) (own : Owners) (c : Cat) (s : Spells g
       let kept : owner_at g new l ≡ Some (InFile 1) = (owner_stays (IsFileMove node n) own.clusters new.clusters (Some (InFile 1)) h.moves.clusters (λ e. ne e) (l / g.cluster)).1 at in
       ne (let f : Some (InFile 1) ≡ Some (InFile n) = sym kept ∙ mine in cc)
 
-  -- a number that is outside then, other than that of the slot, has a free slot
-  left_blank : (new : Owners) (node n m : ℕ) (b : Block) (x : Slot) → IsHeaderFor g bs node n m own new c b x → (i k : ℕ) → IsFileNumber g i → i ≢ m → slice_get new.numbers (i - 1) ≡ Some (Outside k) → IsBlank (header_block g bs i)
-  left_blank new node n m b x h i k is ne now = elim (h.moves.numbers.each (i - 1)) [
-    | inl same ↦ s.slots.outside i k is (sym same ∙ now)
-    | inr may ↦ by_owner (slice_get own.numbers (i - 1)) refl may.0
-  ] where
-    by_owner : (o : Option Owner) → slice_get own.numbers (i - 1) ≡ o → IsFileMove node n o → IsBlank (header_block g bs i)
-    by_owner None e may = absurd may
-    by_owner (Some Free) e may = absurd may
-    by_owner (Some (InFile j)) e may =
-        let goes = h.lost i is (e ∙ ap (λ (q : ℕ). Some (InFile q)) may) (λ f. let g : Some (Outside k) ≡ Some (InFile n) = sym now ∙ f in cc) in
-        let apart : header_place g i ≢ header_place g m = (λ (q : header_place g i ≡ header_place g m). ne (omega arith)) in
-        subst (λ (y : Block). IsBlank y) (get_or-set_other bs (header_place g m) (header_place g i) b [] apart) goes
-    by_owner (Some (Outside j)) e may = s.slots.outside i j is e
-    by_owner (Some Leaked) e may = absurd may
-
   pub header_write_lem : (new : Owners) (node n m : ℕ) (b : Block) (x : Slot) → IsHeaderFor g bs node n m own new c b x → Spells g (slice_set bs (header_place g m) b) new (with_slot c n x)
   header_write_lem new node n m b x h =
       let l = header_place g m in
@@ -329,8 +291,7 @@ module _ (g : Geometry) (bs : List Block) (own : Owners) (c : Cat) (s : Spells g
               (owner_stays (IsFileMove node n) own.numbers new.numbers (Some (InFile k)) h.moves.numbers ne)
               (file_kept g own bs l b k y (others_told new node n m b x h k is ne) (away_by g bs own c s k l (InFile 1) is at (λ p. other_file 1 k refl p)) (s.files k y is other.1)))
         ];
-        slots = slots_set g bs own new m b (on_volume g bs own c s l (InFile 1) at) h.head (λ e. absurd (subst (IsFileMove node n) ((free (m - 1)).0 e) h.owned)) h.outside (λ i e. (free i).0 e)
-            (λ i k is ne e. left_blank new node n m b x h i k is ne e) s.slots;
+        slots = slots_set g bs own new m b (on_volume g bs own c s l (InFile 1) at) h.head (λ e. absurd (subst (IsFileMove node n) ((free (m - 1)).0 e) h.owned)) (λ i e. (free i).0 e) s.slots;
         rows = record {
           quota = s.rows.quota ∙ ap rows_sorted (sym rows);
           once = subst P (sym rows) s.rows.once;
@@ -396,7 +357,7 @@ module _ (g : Geometry) (bs : List Block) (own : Owners) (c : Cat) (s : Spells g
             (λ k st. slot_told m b h k (structure_number g bs own c s k st)) s.structures;
         constants = s.constants;
         files = λ k y is e. file_kept g own bs l b k y (slot_told m b h k is) (away_by g bs own c s k l (InFile 1) is at (λ p. other_file 1 k refl p)) (s.files k y is e);
-        slots = slots_set g bs own own m b (on_volume g bs own c s l (InFile 1) at) h.head h.blank h.outside (λ i e. e) (λ i k is ne e. s.slots.outside i k is e) s.slots;
+        slots = slots_set g bs own own m b (on_volume g bs own c s l (InFile 1) at) h.head h.blank (λ i e. e) s.slots;
         rows = record {
           quota = s.rows.quota ∙ ap rows_sorted (sym rows);
           once = subst P (sym rows) s.rows.once;
@@ -456,7 +417,7 @@ module _ (g : Geometry) (bs : List Block) (own : Owners) (c : Cat) (s : Spells g
           | inr other ↦ (let f = other.0 in let ne : n ≢ m = (λ k. f (ap (λ z. z - 1) k)) in
               file_stays g own bs l b m y (heads_apart g bs own c s m l is heads) (away_by g bs own c s m l (InFile n) is at (λ p e. ne (let k : m ≡ n = cc in sym k))) (s.files m y is other.1))
         ];
-        slots = slots_stay g bs own own l b heads s.slots.blank s.slots.outside s.slots;
+        slots = slots_stay g bs own own l b heads s.slots.blank s.slots;
         rows = record {
           quota = s.rows.quota ∙ ap rows_sorted (sym rows);
           once = subst P (sym rows) s.rows.once;
@@ -490,10 +451,8 @@ module _ (g : Geometry) (bs : List Block) (own : Owners) (c : Cat) (s : Spells g
 
   -- ---- the death of a node
 
-  pub death_leaks_lem : (new : Owners) (node : ℕ) → OwnersMove (IsDeathMove node) own new
-      → ((m k : ℕ) → IsFileNumber g m → slice_get own.numbers (m - 1) ≡ Some Leaked → slice_get new.numbers (m - 1) ≡ Some (Outside k) → IsBlank (header_block g bs m))
-      → Spells g bs new (with_leaks new c)
-  death_leaks_lem new node moves blank =
+  pub death_leaks_lem : (new : Owners) (node : ℕ) → OwnersMove (IsDeathMove node) own new → Spells g bs new (with_leaks new c)
+  death_leaks_lem new node moves =
       let clusters : (q : ℕ) (o : Owner) → (IsDeathMove node (Some o) → ⊥) → (slice_get new.clusters q ≡ Some o) ↔ (slice_get own.clusters q ≡ Some o) =
       λ q o never. owner_stays (IsDeathMove node) own.clusters new.clusters (Some o) moves.clusters never q in
       let numbers : (i : ℕ) (o : Owner) → (IsDeathMove node (Some o) → ⊥) → (slice_get new.numbers i ≡ Some o) ↔ (slice_get own.numbers i ≡ Some o) =
@@ -513,7 +472,6 @@ module _ (g : Geometry) (bs : List Block) (own : Owners) (c : Cat) (s : Spells g
         slots = record {
           heads = s.slots.heads;
           blank = λ m is e. s.slots.blank m is ((numbers (m - 1) Free (λ f. f)).0 e);
-          outside = λ m k is e. elim (moves.numbers.each (m - 1)) [ inl same ↦ s.slots.outside m k is (sym same ∙ e) | inr may ↦ by_owner m k is e (slice_get own.numbers (m - 1)) refl may.0 ];
         };
         rows = record { quota = s.rows.quota; once = s.rows.once };
         owners = record {
@@ -524,13 +482,7 @@ module _ (g : Geometry) (bs : List Block) (own : Owners) (c : Cat) (s : Spells g
           leaked = refl;
           leaked_numbers = refl;
         };
-      } where
-        by_owner : (m k : ℕ) → IsFileNumber g m → slice_get new.numbers (m - 1) ≡ Some (Outside k) → (o : Option Owner) → slice_get own.numbers (m - 1) ≡ o → IsDeathMove node o → IsBlank (header_block g bs m)
-        by_owner m k is now None e may = absurd may
-        by_owner m k is now (Some Free) e may = absurd may
-        by_owner m k is now (Some (InFile j)) e may = absurd may
-        by_owner m k is now (Some (Outside j)) e may = s.slots.outside m j is e
-        by_owner m k is now (Some Leaked) e may = blank m k is e now
+      }
 
 pub outside_write : OutsideWrite
 outside_write g bs own c node l b s whole at = outside_write_lem g bs own c s node l b whole at
@@ -554,4 +506,4 @@ pub body_write : BodyWrite
 body_write g bs own c n v l b x s h = body_write_lem g bs own c s n v l b x h
 
 pub death_leaks : DeathLeaks
-death_leaks g bs own new c node s moves blank = death_leaks_lem g bs own c s new node moves blank
+death_leaks g bs own new c node s moves = death_leaks_lem g bs own c s new node moves

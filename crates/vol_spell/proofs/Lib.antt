@@ -15,6 +15,7 @@ pub mod Handing
 pub mod HeadFiles
 pub mod HeadKept
 pub mod HeadRuns
+pub mod HeadSame
 pub mod HeadSlots
 pub mod HeadTold
 pub mod Heads
@@ -38,6 +39,7 @@ pub mod RowNew
 pub mod RowNewLists
 pub mod RowOrder
 pub mod RowRanges
+pub mod RunRows
 pub mod Runs
 pub mod SameSlots
 pub mod Shown

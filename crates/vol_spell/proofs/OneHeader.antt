@@ -1,16 +1,14 @@
 -- Files that have one header.
-use Rattle.std.proofs.Common.{◌≡◌, ◌∙◌, ◌≤◌, ◌<◌, ◌*◌, ◌==◌, ◌&&◌, ◌||◌, ◌⊎◌, nat_lt, ℕ, suc, min, not, Bool, true, false, List, [], ◌∷◌, Option, Some, None, Ok, is_some, length, flat_map, refl, sym, ap, subst, inl, inr, arith, append-nil}
+use Rattle.std.proofs.Common.{◌≡◌, ◌∙◌, ◌≤◌, ◌*◌, ◌==◌, ◌&&◌, ◌||◌, nat_lt, ℕ, suc, min, not, Bool, true, false, List, [], ◌∷◌, Option, Some, None, Ok, length, flat_map, refl, sym, ap, subst, inl, inr, arith, append-nil}
 use Rattle.std.proofs.Math.Nat.{mul-le-mul_right}
 use Rattle.std.proofs.lemmas.Bool.Decides.{nat_tests}
-use Rattle.std.proofs.lemmas.Bool.{and_parts, le-leb, eqb-true, eq-eqb, cases_lt}
+use Rattle.std.proofs.lemmas.Bool.{and_parts, le-leb, eqb-true, eq-eqb}
 use Rattle.base_words.specs.Fields.{Block}
-use Rattle.base_words.specs.Lists.{Has}
 use Rattle.fx_header.specs.declared.run.Run.{Run}
 use Rattle.fx_header.specs.declared.slot.Hdr.{Hdr}
 use Rattle.fx_header.specs.declared.slot.Slot.TheVariants.{Used}
 use Rattle.fx_header.specs.Headers.{runs_in}
 use Rattle.fx_header.specs.Pointers.{blocks_in}
-use Rattle.plain_cat.specs.declared.cat.Slot.{Slot}
 use Rattle.plain_rules.specs.Lookups.{header_most, file_most, extra}
 use Rattle.vol_parts.specs.declared.geometry.Geometry.{Geometry}
 use Rattle.vol_parts.specs.Chains.{held, cut, has_link, chain_with, chain_of, is_well_split}
@@ -21,17 +19,12 @@ use Rattle.vol_parts.proofs.Cuts.{cut-counts, cut-leaves}
 use Rattle.vol_parts.proofs.Linked.{alone-slots}
 use Rattle.vol_parts.proofs.Listed.{runs-some}
 use Rattle.vol_parts.proofs.Splits.{split-counts, few-in-one}
-use Rattle.vol_spell.specs.Owners.{Owners}
 use Rattle.vol_spell.specs.Reading.{header_block, headers_at, head_told, fields_told, told_of, alone, nobody, chain_told, clusters_of, clusters_told}
-use Rattle.vol_spell.specs.Spelling.{AreWhole, size_in, has_one_at_most, Tells}
-use Rattle.vol_spell.proofs.Heads.{used_reads, used_first, slots_used}
+use Rattle.vol_spell.specs.Spelling.{AreWhole, size_in, has_one_at_most}
+use Rattle.vol_spell.proofs.Heads.{used_reads, used_first}
 use Rattle.vol_spell.proofs.Runs.{size_of_runs}
 
--- A file has no more clusters than a header lists. This goes when files have more headers.
-pub one_header_each : (clusters : ℕ) → clusters ≤ file_most → clusters ≤ header_most
-one_header_each clusters few = few
-
--- and it may have as many
+-- a file may have as many clusters as one header lists
 pub within_file : (clusters : ℕ) → clusters ≤ header_most → clusters ≤ file_most
 within_file clusters few = omega arith
 
@@ -102,22 +95,6 @@ module _ (g : Geometry) (bs : List Block) (n : ℕ) (f : Hdr) (used : fields_tol
       ∙ ap (λ r. told_with r (chain_of (headers_at g bs) n f)) (used_first (header_block g bs n) f used)
       ∙ ap (λ ns. told_with (Ok (Used f)) (chain_with (headers_at g bs) f.blocks ns)) slots
       ∙ (λ i. record { head = Ok (Used f); slots = n ∷ []; parts = lists i ∷ []; runs = cut f.blocks (all i); surplus = has_link (says i) || nat_lt f.blocks (blocks_in (all i)) })
-
--- so what is told of a file that is spelt and in use has the one slot
-pub tells_slot : (g : Geometry) (own : Owners) (bs : List Block) (n : ℕ) (f : Hdr) (blocks : List Block) (s : Slot) → 1 ≤ g.cluster → Tells g own n (told_of g bs n) blocks s
-    → fields_told (header_block g bs n) ≡ Some f → (told_of g bs n).slots ≡ n ∷ []
-tells_slot g own bs n f blocks s low t used = by_kind (cases_lt 11 n) where
-  by_kind : (11 < n) ⊎ (n ≤ 11) → (told_of g bs n).slots ≡ n ∷ []
-  by_kind (inl above) = few_slot g bs n f used low t.whole t.size (t.split above) (one_header_each (length (clusters_told g (told_of g bs n))) (t.few above))
-  by_kind (inr system) = one_slot g bs n f used (t.system system)
-
--- and no other
-pub told_slot : (g : Geometry) (own : Owners) (bs : List Block) (n : ℕ) (blocks : List Block) (s : Slot) (m : ℕ) → 1 ≤ g.cluster → Tells g own n (told_of g bs n) blocks s → Has (told_of g bs n).slots m → n ≡ m
-told_slot g own bs n blocks s m low t has = with_fields (fields_told (header_block g bs n)) refl where
-  with_fields : (o : Option Hdr) → fields_told (header_block g bs n) ≡ o → n ≡ m
-  with_fields None e = absurd (let used = slots_used g bs n m has in let h : false ≡ true = sym (ap is_some e) ∙ used in cc)
-  with_fields (Some f) e =
-      elim (subst (λ (ns : List ℕ). Has ns m) (tells_slot g own bs n f blocks s low t e) has) [ inl same ↦ same | inr none ↦ absurd none ]
 
 -- ---- what it says
 

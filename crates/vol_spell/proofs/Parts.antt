@@ -1,5 +1,5 @@
 -- Where the parts of a volume lie.
-use Rattle.std.proofs.Common.{◌≡◌, ◌≢◌, ◌<◌, ◌≤◌, ◌+◌, ◌*◌, ◌-◌, ◌/◌, ℕ, Bool, true, false, List, ◌∷◌, Option, Some, None, slice_get, get_or, refl, sym, ap, subst, ◌∙◌, inl, inr, arith, cond}
+use Rattle.std.proofs.Common.{◌≡◌, ◌≢◌, ◌<◌, ◌≤◌, ◌+◌, ◌*◌, ◌-◌, ◌/◌, ℕ, Bool, true, false, List, [], ◌∷◌, Option, Some, None, slice_get, get_or, refl, sym, ap, subst, ◌∙◌, inl, inr, arith, cond}
 use Rattle.std.specs.Prelude.{◌==◌, ◌↔◌, is_some}
 use Rattle.std.proofs.lemmas.Bool.Decides.{nat_tests}
 use Rattle.std.proofs.lemmas.Option.{slice_get-get_or, slice_get_within}
@@ -22,7 +22,6 @@ use Rattle.vol_spell.specs.Places.{place_of, IsPart, file_of_part, ArePartsOf}
 use Rattle.vol_spell.specs.Spelling.{Tells, IsStructure, Spells}
 use Rattle.vol_spell.proofs.Runs.{has_cluster, in_one_run}
 use Rattle.vol_spell.proofs.Heads.{first_there, slots_used}
-use Rattle.vol_spell.proofs.OneHeader.{told_slot}
 
 -- a block is a part, or none
 data Which (g : Geometry) (l : ℕ) (o : Option Part) : Type 0 where
@@ -134,11 +133,9 @@ module _ (g : Geometry) (bs : List Block) (own : Owners) (c : Cat) (s : Spells g
   pub numberless : (i n : ℕ) → slice_get own.numbers (n - 1) ≢ Some (InFile n) → slice_get own.numbers i ≢ Some (InFile n)
   numberless i n none e = let h = number_slot i n e in none ((in_use n h.0).0 (slots_used g bs n (i + 1) h.1))
 
-  -- and one that is the file's is its own, which has one header
-  pub own_number : (i n : ℕ) → slice_get own.numbers i ≡ Some (InFile n) → n ≡ i + 1
-  own_number i n e =
-      let h = number_slot i n e in
-      told_slot g own bs n (body_blocks bs n (told_of g bs n)) (get_or c.files (n - 1) (slot.Free 0)) (i + 1) low (told n h.0) h.1
+  -- and one that has one header has no number but its own
+  pub own_number : (i n : ℕ) → (told_of g bs n).slots ≡ n ∷ [] → slice_get own.numbers i ≡ Some (InFile n) → n ≡ i + 1
+  own_number i n one e = elim (subst (λ (ns : List ℕ). Has ns (i + 1)) one (number_slot i n e).1) [ inl same ↦ same | inr none ↦ absurd none ]
 
   pub in_structure : (n : ℕ) (r : Run) → IsFileNumber g n → IsStructure g bs n r → (l : ℕ) → r.lbn ≤ l → l < r.lbn + r.count → owner_at g own l ≡ Some (InFile n)
   in_structure n r is st l lo hi = in_file n l is (let P : List Run → Type 0 = λ rs. Has (lbns_in rs) l in subst P (sym st.run) (in_one_run r l lo hi))

@@ -52,8 +52,7 @@ IndexWrite = (g : Geometry) (bs : List Block) (own new : Owners) (c : Cat) (node
 -- The block b in header slot m of file n, that of its own number or another, by a node: what the file gets was outside at the
 -- node, and what it loses goes there. The number m is the file's or outside at the node, and it stays its header's; what is told of
 -- m where it is not n stays. With the block and the blocks that are named then the file tells the slot s, where a file that is
--- counted as reserved keeps its number of clusters. The slot of each number that the file loses is free then, and so is the slot m
--- where its number is outside then.
+-- counted as reserved keeps its number of clusters.
 pub record IsHeaderFor (g : Geometry) (bs : List Block) (node n m : ℕ) (own new : Owners) (c : Cat) (b : Block) (s : Slot) : Type 0 where
   pub whole : IsWholeBlock b
   pub number : IsFileNumber g n
@@ -64,8 +63,6 @@ pub record IsHeaderFor (g : Geometry) (bs : List Block) (node n m : ℕ) (own ne
   pub plain : is_structure n ≡ false
   pub moves : OwnersMove (IsFileMove node n) own new
   pub tells : let t = told_of g (slice_set bs (header_place g m) b) n in Tells g new n t (body_blocks bs n t) s
-  pub lost : (i : ℕ) → IsFileNumber g i → slice_get own.numbers (i - 1) ≡ Some (InFile n) → slice_get new.numbers (i - 1) ≢ Some (InFile n) → IsBlank (header_block g (slice_set bs (header_place g m) b) i)
-  pub outside : (k : ℕ) → slice_get new.numbers (m - 1) ≡ Some (Outside k) → IsBlank b
   pub reserved : (old : Slot) → n ≤ 11 → slice_get c.files (n - 1) ≡ Some old → clusters_in s ≡ clusters_in old
 
 -- a header: one slot changes
@@ -74,7 +71,7 @@ HeaderWrite = (g : Geometry) (bs : List Block) (own new : Owners) (c : Cat) (nod
     → Spells g (slice_set bs (header_place g m) b) new (with_slot c n s)
 
 -- The block b in header slot m, which is no file's: it is the header of this number, tells no file, and has the sequence that the
--- catalogue has. Where the number is free or outside, the slot stays free.
+-- catalogue has. Where the number is free, the slot stays free.
 pub record IsSlotFor (g : Geometry) (bs : List Block) (m : ℕ) (own : Owners) (c : Cat) (b : Block) : Type 0 where
   pub whole : IsWholeBlock b
   pub number : IsFileNumber g m
@@ -84,7 +81,6 @@ pub record IsSlotFor (g : Geometry) (bs : List Block) (m : ℕ) (own : Owners) (
   pub slot : slice_get c.files (m - 1) ≡ Some (slot.Free seq)
   pub head : IsHead m (header_read b)
   pub blank : slice_get own.numbers (m - 1) ≡ Some Free → IsBlank b
-  pub outside : (k : ℕ) → slice_get own.numbers (m - 1) ≡ Some (Outside k) → IsBlank b
 
 -- a header slot that is no file's: nothing changes
 abbrev pub SlotWrite : Type 0
@@ -107,9 +103,7 @@ BodyWrite = (g : Geometry) (bs : List Block) (own : Owners) (c : Cat) (n v l : �
 abbrev pub with_leaks : Owners → Cat → Cat
 with_leaks own c = record c { leaked = count_by (is_same_owner Leaked) own.clusters; leaked_numbers = map (is_same_owner Leaked) own.numbers }
 
--- no write, but the death of a node: what it held outside is leaked. What is leaked may also go outside at the node, if the slots of
--- its numbers are free.
+-- no write, but the death of a node: what it held outside is leaked; what is leaked may also go outside at the node
 abbrev pub DeathLeaks : Type 0
 DeathLeaks = (g : Geometry) (bs : List Block) (own new : Owners) (c : Cat) (node : ℕ) → Spells g bs own c → OwnersMove (IsDeathMove node) own new
-    → ((m k : ℕ) → IsFileNumber g m → slice_get own.numbers (m - 1) ≡ Some Leaked → slice_get new.numbers (m - 1) ≡ Some (Outside k) → IsBlank (header_block g bs m))
     → Spells g bs new (with_leaks new c)

@@ -141,8 +141,11 @@ pub record HasSlots (g : Geometry) (bs : List Block) (own : Owners) : Type 0 whe
   pub heads : (m : ℕ) → IsFileNumber g m → IsHead m (header_read (header_block g bs m))
   -- the slot of a free number is free
   pub blank : (m : ℕ) → IsFileNumber g m → slice_get own.numbers (m - 1) ≡ Some Free → IsBlank (header_block g bs m)
-  -- and so is the slot of a number that a node has outside
-  pub outside : (m node : ℕ) → IsFileNumber g m → slice_get own.numbers (m - 1) ≡ Some (Outside node) → IsBlank (header_block g bs m)
+
+-- The slot of each number that a node has outside is free. Between the writes of a command it may be in use, so the spelling does
+-- not ask for it.
+abbrev pub AreBlank : Geometry → List Block → Owners → Type 0
+AreBlank g bs own = (m node : ℕ) → IsFileNumber g m → slice_get own.numbers (m - 1) ≡ Some (Outside node) → IsBlank (header_block g bs m)
 
 -- The owners are those that the bits and the catalogue tell.
 pub record AreOwners (g : Geometry) (bs : List Block) (own : Owners) (c : Cat) : Type 0 where
@@ -171,7 +174,7 @@ pub record Spells (g : Geometry) (bs : List Block) (own : Owners) (c : Cat) : Ty
   pub constants : HasConstants g c
   -- what is told of each file tells its slot, with the blocks of the file
   pub files : (n : ℕ) (s : Slot) → IsFileNumber g n → slice_get c.files (n - 1) ≡ Some s → Tells g own n (told_of g bs n) (body_blocks bs n (told_of g bs n)) s
-  -- each header slot can be read, and that of a number that is free or outside is free
+  -- each header slot can be read, and that of a free number is free
   pub slots : HasSlots g bs own
   -- the quota rows are the catalogue's
   pub rows : HasRows g bs c

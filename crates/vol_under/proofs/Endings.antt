@@ -1,17 +1,16 @@
 -- What channels that open and close, and deaths, leave of the drive under way.
-use Rattle.std.proofs.Common.{◌≡◌, ◌≤◌, ◌+◌, ◌==◌, ℕ, Bool, true, false, List, [], Option, length, map, refl, sym, ap, subst, ◌∙◌, inr, arith, cond, slice_get}
-use Rattle.std.specs.Prelude.{◌-◌, Some, count_by}
+use Rattle.std.proofs.Common.{◌≡◌, ◌≤◌, ◌+◌, ◌==◌, ℕ, Bool, true, false, List, [], Option, length, map, refl, sym, ap, subst, ◌∙◌, inr, arith, cond}
+use Rattle.std.specs.Prelude.{count_by}
 use Rattle.base_words.specs.Fields.{Block}
 use Rattle.plain_cat.specs.declared.cat.Cat.{Cat}
 use Rattle.plain_cat.specs.declared.cat.Open.{Open}
 use Rattle.plain_rules.specs.Replaying.{closed_channels, flagged, dead}
-use Rattle.vol_spell.specs.declared.owner.Owner.{Owner}
 use Rattle.vol_spell.specs.declared.owner.Owner.TheVariants.{Outside, Leaked}
 use Rattle.base_words.specs.Lists.{Once, Touches, StandsIn}
 use Rattle.vol_spell.specs.Owners.{Owners, OwnersMove, IsDeathMove, nothing, Outs}
 use Rattle.vol_spell.specs.Hands.{handed, AreOf}
 use Rattle.vol_spell.specs.Counts.{is_same_owner}
-use Rattle.vol_spell.proofs.Handing.{handed_moves, are_handed, outside_to_leaked}
+use Rattle.vol_spell.proofs.Handing.{handed_moves, outside_to_leaked}
 use Rattle.vol_parts.specs.declared.geometry.Geometry.{Geometry}
 use Rattle.vol_spell.specs.Spelling.{Spells}
 use Rattle.vol_spell.specs.Kinds.{with_leaks}
@@ -53,18 +52,13 @@ opens_keep g c nodes drive opens u = record {
   seen_guarded = u.seen_guarded;
 }
 
--- what is leaked stays so where more of it leaks
-pub leaked_stays : (n : ℕ) (qs : List ℕ) (xs : List Owner) → AreOf qs (Outside n) xs → (i : ℕ) → slice_get xs i ≡ Some Leaked → slice_get (handed qs Leaked xs) i ≡ Some Leaked
-leaked_stays n qs xs were i e = ((are_handed qs (Outside n) Leaked xs were (λ f. absurd (cc))).to i).1 (inr e)
-
 -- what leaks, by numbers
-pub dead_spelt : (g : Geometry) (bs : List Block) (own new : Owners) (c : Cat) (n k : ℕ) (ns : List ℕ) → Spells g bs own c → OwnersMove (IsDeathMove n) own new
-    → ((i : ℕ) → slice_get own.numbers i ≡ Some Leaked → slice_get new.numbers i ≡ Some Leaked) → count_by (is_same_owner Leaked) new.clusters ≡ c.leaked + k
+pub dead_spelt : (g : Geometry) (bs : List Block) (own new : Owners) (c : Cat) (n k : ℕ) (ns : List ℕ) → Spells g bs own c → OwnersMove (IsDeathMove n) own new → count_by (is_same_owner Leaked) new.clusters ≡ c.leaked + k
     → map (is_same_owner Leaked) new.numbers ≡ flagged c.leaked_numbers ns → Spells g bs new (dead c n k ns)
 unfolding dead
-dead_spelt g bs own new c n k ns s moves stays clusters numbers =
+dead_spelt g bs own new c n k ns s moves clusters numbers =
     let e : with_leaks new c ≡ record c { leaked = c.leaked + k; leaked_numbers = flagged c.leaked_numbers ns } = λ i. record c { leaked = clusters i; leaked_numbers = numbers i } in
-    opens_spelt g bs new (record c { leaked = c.leaked + k; leaked_numbers = flagged c.leaked_numbers ns }) (closed_channels n 8 c.opens) (subst (λ (d : Cat). Spells g bs new d) e (death_leaks g bs own new c n s moves (λ m j is was now. absurd (let both : Some Leaked ≡ Some (Outside j) = sym (stays (m - 1) was) ∙ now in cc))))
+    opens_spelt g bs new (record c { leaked = c.leaked + k; leaked_numbers = flagged c.leaked_numbers ns }) (closed_channels n 8 c.opens) (subst (λ (d : Cat). Spells g bs new d) e (death_leaks g bs own new c n s moves))
 
 pub leak_keeps : LeakKeeps
 leak_keeps g c nodes drive n stock ns u is are =
@@ -72,7 +66,7 @@ leak_keeps g c nodes drive n stock ns u is are =
     record {
       base = u.base;
       own = new;
-      spelt = dead_spelt g u.base u.own new c n (length stock.clusters) ns u.spelt moves (leaked_stays n stock.numbers u.own.numbers numbers)
+      spelt = dead_spelt g u.base u.own new c n (length stock.clusters) ns u.spelt moves
           (leaks_count n stock.clusters u.own.clusters out.clusters.once clusters ∙ ap (λ k. k + length stock.clusters) (sym u.spelt.owners.leaked))
           (leaks_flagged stock.numbers u.own.numbers ∙ ap (λ (fs : List Bool). flagged fs (file_numbers stock)) (sym u.spelt.owners.leaked_numbers) ∙ sym (flagged_alike ns (file_numbers stock) c.leaked_numbers are.same));
       over = over_same (λ m. writes_to (nodes m).done (nodes m)) (λ m. writes_to (changed nodes n rest m).done (changed nodes n rest m)) u.base drive u.over (done_alike nodes n rest (sym (ap (λ v. writes_to v.done v) is)));

@@ -13,9 +13,8 @@ use Rattle.fx_header.specs.declared.slot.HeaderFault.{HeaderFault}
 use Rattle.plain_cat.specs.declared.cat.Cat.{Cat}
 use Rattle.plain_cat.specs.declared.cat.Slot.{Slot}
 use Rattle.plain_cat.specs.declared.cat.Slot.TheVariants as slot
-use Rattle.plain_rules.specs.Lookups.{is_free_slot, is_set, is_free_number, free_clusters, header_most, free_count, HasSingleHeaders}
+use Rattle.plain_rules.specs.Lookups.{is_free_slot, is_set, is_free_number, free_clusters, free_count}
 use Rattle.plain_rules.specs.Replaying.{flagged}
-use Rattle.plain_rules.proofs.Standing.{stands_at}
 use Rattle.vol_spell.specs.declared.owner.Owner.{Owner}
 use Rattle.vol_spell.specs.declared.owner.Owner.TheVariants.{Free, InFile, Outside, Leaked}
 use Rattle.base_words.specs.Lists.{Has, Once, written, Touches}
@@ -32,8 +31,8 @@ use Rattle.vol_spell.specs.Reading.{IsFileNumber, header_block, head_told, told_
 use Rattle.vol_spell.specs.Spelling.{IsHead, Spells}
 use Rattle.vol_spell.specs.Adding.{is_outside}
 use Rattle.vol_spell.proofs.NumberAdds.{numbers_add_up}
-use Rattle.vol_spell.proofs.Adds.{size_told, clusters_add_up}
-use Rattle.vol_spell.proofs.Parts.{low, used_of}
+use Rattle.vol_spell.proofs.Adds.{clusters_add_up}
+use Rattle.vol_spell.proofs.Parts.{used_of}
 use Rattle.vol_under.specs.Ending.{file_numbers, AreNumbersOf, OutsideMayLeak}
 use Rattle.vol_under.specs.UnderWay.{together}
 
@@ -102,15 +101,6 @@ some_of : (k f a b : ℕ) → f ≡ a + b → k ≤ b → k ≤ f
 some_of k f a b e h = omega arith
 
 -- ---- as many numbers
-
--- each file above number 11 has one header
-pub single_headers : (g : Geometry) (bs : List Block) (own : Owners) (c : Cat) → Spells g bs own c → HasSingleHeaders c
-single_headers g bs own c s n f above at =
-    let here = stands_at c n f at in
-    let lt = slice_get_within c.files (n - 1) (slot.Used f) here in
-    let count = s.counts.slots in
-    let t = s.files n (slot.Used f) (record { from = omega arith; to = omega arith }) here in
-    subst (λ (k : ℕ). k ≤ header_most) (sym (size_told g own n (told_of g bs n) (body_blocks bs n (told_of g bs n)) (slot.Used f) (low g bs own c s) t)) (t.few above)
 
 -- the numbers outside at a node are no more than there are to take
 pub numbers_out : (g : Geometry) (bs : List Block) (own : Owners) (c : Cat) (n : ℕ) → Spells g bs own c → count_by (is_same_owner (Outside n)) own.numbers ≤ free_count c

@@ -17,7 +17,7 @@ use Rattle.vol_parts.specs.declared.geometry.Geometry.{Geometry}
 use Rattle.vol_parts.specs.declared.geometry.Part.TheVariants.{IndexBitmap, Storage}
 use Rattle.vol_parts.specs.Parts.{part_of}
 use Rattle.vol_spell.specs.Reading.{IsFileNumber, total_of, header_block, cluster_bit, number_bit}
-use Rattle.vol_spell.specs.Spelling.{IsBlank, Spells}
+use Rattle.vol_spell.specs.Spelling.{IsBlank, AreBlank, Spells}
 use Rattle.vol_spell.proofs.Parts.{part_only}
 use Rattle.vol_spell.proofs.Viewing.{storage_set, index_set}
 use Rattle.vol_spell.proofs.Keeping.{storage_write, index_write}
@@ -151,14 +151,15 @@ takes_numbers g n took stock l ps old b base own c s outs part at taken =
       blank : (m : ℕ) → IsFileNumber g m → slice_get own.numbers (m - 1) ≢ Some Free → slice_get new.numbers (m - 1) ≡ Some Free → IsBlank (header_block g base m)
       blank m is other now = absurd (other (((are_handed ps Free (Outside n) own.numbers were (λ f. absurd (cc))).from (m - 1)).0 now).0)
 
--- the numbers of a stock have free slots
-pub stock_blank : (g : Geometry) (base : List Block) (own : Owners) (c : Cat) (n : ℕ) (took stock : Things) (ps rest : List ℕ) → Spells g base own c → Outs n own took stock → Parts stock.numbers ps rest → HaveBlankSlots g base ps
-stock_blank g base own c n took stock ps rest s outs parts i t =
+-- the numbers of a stock have free slots, where those of all numbers outside are free
+pub stock_blank : (g : Geometry) (base : List Block) (own : Owners) (c : Cat) (n : ℕ) (took stock : Things) (ps rest : List ℕ) → Spells g base own c → AreBlank g base own → Outs n own took stock → Parts stock.numbers ps rest
+    → HaveBlankSlots g base ps
+stock_blank g base own c n took stock ps rest s blank outs parts i t =
     let out : slice_get own.numbers i ≡ Some (Outside n) = (outs.numbers.all i).1 (inr (parts.part_in i t)) in
     let lt = slice_get_within own.numbers i (Outside n) out in
     let count = s.counts.numbers in
     let back : i + 1 - 1 ≡ i = omega arith in
-    s.slots.outside (i + 1) n (record { from = omega arith; to = omega arith }) (ap (slice_get own.numbers) back ∙ out)
+    blank (i + 1) n (record { from = omega arith; to = omega arith }) (ap (slice_get own.numbers) back ∙ out)
 
 pub gives_numbers : GivesNumbers
 gives_numbers g n took stock l ps rest old b base own c s outs part at parts once given slots =

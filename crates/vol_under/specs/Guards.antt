@@ -17,7 +17,7 @@ pub data Guard : Type 0 where
   Lock : LockName → Guard
   Stock : ℕ → Guard
 
--- the lock of a part of the volume: of a header its file's, of both bitmaps V, of the quota blocks Q
+-- the lock of a part of the volume: of a header that of its own number, of both bitmaps V, of the quota blocks Q
 abbrev pub lock_of_part : Part → LockName
 lock_of_part (Header n) = S n
 lock_of_part IndexBitmap = V

@@ -112,8 +112,8 @@ pub fn out_alike()
     ensures { OutAlike }
 {}
 
-/// Where nothing is outside at any node, as many clusters are free by the catalogue as have their bits set, and the free file
-/// numbers are those whose bits are clear.
+/// Where nothing is outside at any node, as many clusters are free by the catalogue as have their bits set, and there are as many
+/// file numbers to take as have their bits clear. A number whose bit is clear is a free one of the catalogue.
 pub fn free_by_bits()
     ensures { FreeByBits }
 {}

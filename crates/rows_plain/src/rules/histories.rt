@@ -121,16 +121,16 @@ pub fn pass(
 
 // ---- what a death leaves of a command that its node had begun, by the catalogue behind that command
 
-/// The file of a number.
-pub fn file_of(cat: &Cat, n: u32) -> Result<&File, NoMemory> {
+// The file of a number.
+fn file_of(cat: &Cat, n: u32) -> Result<&File, NoMemory> {
     match cat.files.items().get(n.saturating_sub(1) as usize) {
         Some(Slot::Used(file)) => Ok(file),
         _ => Err(AllocError),
     }
 }
 
-/// A number has this file.
-pub fn put_file(cat: &mut Cat, n: u32, file: File) {
+// A number has this file.
+fn put_file(cat: &mut Cat, n: u32, file: File) {
     let at = n.saturating_sub(1) as usize;
     if at < cat.files.items().len() {
         cat.files.set(at, Slot::Used(file));

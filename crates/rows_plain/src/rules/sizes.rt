@@ -50,7 +50,7 @@ pub const ONE_FILE: [Step; 5] = [
     },
 ];
 
-pub const LARGEST_FILE: [Step; 5] = [
+pub const SEVERAL_HEADERS: [Step; 6] = [
     Step {
         command: Create(MFD, "A.TXT", 0, 308, USER),
         answer: Found(12, 1, "A.TXT", 1),
@@ -62,8 +62,8 @@ pub const LARGEST_FILE: [Step; 5] = [
     },
     Step {
         command: Extend(FIRST, 1),
-        answer: Refused(FileLimit),
-        wrong: &[Size(312), Size(309), Refused(DeviceFull)],
+        answer: Size(312),
+        wrong: &[Refused(FileLimit), Refused(IndexFull), Size(309)],
     },
     Step {
         command: Trunc(FIRST, 304),
@@ -83,6 +83,11 @@ pub const LARGEST_FILE: [Step; 5] = [
             Refused(DeviceFull),
             Refused(ExQuota),
         ],
+    },
+    Step {
+        command: Extend(FIRST, 309),
+        answer: Refused(FileLimit),
+        wrong: &[Size(620), Refused(DeviceFull), Refused(ExQuota)],
     },
 ];
 

@@ -1,6 +1,6 @@
 //! The laws of cuts and of chains of headers, each a statement for every value that it speaks of.
 
-ghost use Rattle.vol_parts.specs.ChainLaws.{CutTakesFirst, CutCounts, CutLeavesAll, CutHasBlocks, CutStaysInside, ListedHaveBlocks, BeginsThere, SlotsAreFew, SlotsAreNumbers, SegmentsRise, SlotsStandOnce, OneIsAlone, OneIsWhole, LinkedAreChain, SumsEndInLast, ChainStays, SplitCounts, SplitIsFew, FewAreInOne};
+ghost use Rattle.vol_parts.specs.ChainLaws.{CutTakesFirst, CutCounts, CutLeavesAll, CutHasBlocks, CutStaysInside, ListedHaveBlocks, BeginsThere, SlotsAreFew, SlotsAreNumbers, SegmentsRise, SlotsStandOnce, OneIsAlone, OneIsWhole, LinkedAreChain, SumsEndInLast, ChainStays, SplitCounts, SplitIsFew, FewAreInOne, SoundIsFew};
 
 /// A cut has the first blocks of the runs, so many as were asked for, or all. It leaves no empty run, and stays at the bounds of
 /// clusters where runs and cut are at such bounds. The runs that a header lists are not empty.
@@ -40,9 +40,11 @@ pub fn chains_stay()
     ensures { ChainStays }
 {}
 
-/// A well split chain has a header for each 77 clusters that are begun, and one at least; so it has at most 1,232 clusters.
+/// A well split chain has a header for each 77 clusters that are begun, and one at least; so it has at most 1,232 clusters, and no
+/// file whose chain has no fault has more.
 pub fn split_chains_are_counted()
     ensures count { SplitCounts }
     ensures few { SplitIsFew }
     ensures one { FewAreInOne }
+    ensures sound { SoundIsFew }
 {}

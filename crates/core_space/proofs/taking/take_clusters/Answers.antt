@@ -4,25 +4,25 @@ use Rattle.std.proofs.lemmas.List.{get_or-map, length-map}
 use Rattle.base_words.specs.Fields.{Block}
 use Rattle.op_law.specs.declared.need.PlanWrite.{PlanWrite}
 use Rattle.core_space.specs.Searching.{free_from, with_taken, taken_in, cluster_write, cluster_writes}
-use Rattle.core_space.specs.Answering.{blocks_of}
+use Rattle.core_space.specs.Answering.{blocks_alone}
 use Rattle.core_space.proofs.Gathering.{gathering_begins, gather, wrote, wrote_none}
 use Rattle.core_space.proofs.taking.take_clusters.Goals as goal
 use Rattle.core_space.proofs.taking.take_clusters.Goals.{After-loop-k, then-before-items+in_ok-block_write+in_ok-push, else-before-items}
 
 pub loop-k-init : goal.loop-k-init
-loop-k-init c = gathering_begins c.args.geometry.now c.args.wanted c.args.number (blocks_of c.args.storage.now) c.args.writes.now c.new-taken.result c.new-taken.ensures
+loop-k-init c = gathering_begins c.args.geometry.now c.args.wanted c.args.number (blocks_alone c.args.storage.now) c.args.writes.now c.new-taken.result c.new-taken.ensures
 
 pub take_from-requires-clause-rising : goal.take_from-requires-clause-rising
 take_from-requires-clause-rising c = c.loop-k.invariant.below
 
 -- the block that is looked at
-block_here : (xs : List (ℕ × Block)) (k : ℕ) (d : ℕ × Block) → k < length xs → get_or (blocks_of xs) k [] ≡ (get_or xs k d).1
+block_here : (xs : List (ℕ × Block)) (k : ℕ) (d : ℕ × Block) → k < length xs → get_or (blocks_alone xs) k [] ≡ (get_or xs k d).1
 block_here xs k d lt = get_or-map (λ (x : ℕ × Block). x.1) xs k d [] lt
 
 pub loop-k-preserved : goal.loop-k-preserved
 loop-k-preserved c =
     let g = c.args.geometry.now in
-    let bs = blocks_of c.args.storage.now in
+    let bs = blocks_alone c.args.storage.now in
     let b : Block = (get_or c.args.storage.now c.loop-k.k (0, [])).1 in
     let qs = taken_in g c.args.wanted c.loop-k.taken c.loop-k.k b in
     let lt : c.loop-k.k < length bs = (let inside = c.loop-k-test.true in let count = length-map c.args.storage.now (λ (x : ℕ × Block). x.1) in omega (arith, count)) in
@@ -46,13 +46,13 @@ loop-k-preserved c =
     ) in
     gather g c.args.wanted c.args.number bs c.args.writes.now c.loop-k.taken c.loop-k.writes c.loop-k.k b c.take_from.new.taken c.if-before-items.writes lt at c.loop-k.invariant after writes below
 
-whole_list : (c : After-loop-k) → take c.loop-k.k (blocks_of c.args.storage.now) ≡ blocks_of c.args.storage.now
+whole_list : (c : After-loop-k) → take c.loop-k.k (blocks_alone c.args.storage.now) ≡ blocks_alone c.args.storage.now
 whole_list c =
     let stop = c.loop-k-test.false in
     let le = c.loop-k.auto.k-end in
     let count = length-map c.args.storage.now (λ (x : ℕ × Block). x.1) in
-    let all : c.loop-k.k ≡ length (blocks_of c.args.storage.now) = omega (arith, count) in
-    ap (λ n. take n (blocks_of c.args.storage.now)) all ∙ take-length (blocks_of c.args.storage.now)
+    let all : c.loop-k.k ≡ length (blocks_alone c.args.storage.now) = omega (arith, count) in
+    ap (λ n. take n (blocks_alone c.args.storage.now)) all ∙ take-length (blocks_alone c.args.storage.now)
 
 pub returns-clause-taken : goal.returns-clause-taken
 returns-clause-taken c = c.loop-k.invariant.taken_is ∙ ap (λ (bs : List Block). take c.args.wanted (free_from c.args.geometry.now 0 bs)) (whole_list c)

@@ -10,7 +10,7 @@ use Rattle.op_law.specs.Removing.{delete_events}
 use Rattle.op_steps.specs.Names.{dir_seen}
 use Rattle.op_steps.proofs.Followed.{first_names}
 use Rattle.op_delete.proofs.Walks.{behind}
-use Rattle.op_delete.proofs.Behind.{order, first_inside, first_readable, dir_few, behind_inside}
+use Rattle.op_delete.proofs.Behind.{order, first_inside, first_readable, dir_few, behind_inside, behind_followed, behind_lone}
 use Rattle.op_delete.proofs.Told.{lock_so}
 use Rattle.op_steps.proofs.Mapped.{mapped}
 use Rattle.op_delete.proofs.deleting.delete_next.Goals as goal
@@ -24,11 +24,14 @@ dir_looked-requires-clause-few c =
     let seen = c.args.seen.now in
     let g = seen.geometry in
     let dir = c.args.dir in
-    let d = c.in-All.d in
+    let name = c.args.name.now in
+    let d = dir_seen c.in-All.d in
     let rest = c.in-All.rest in
-    let few = dir_few dir c.args.name.now c.args.ver seen c.requires.fits (dir_seen d) rest.locks.now rest.blocks.now
-    (λ next. (λ i. following (through_names g dir next) (sym c.all.ensures.locks i) (sym c.all.ensures.blocks i) (space_of seen)) ∙ c.in-All.ensures.need next (space_of seen)) in
-    let count = length-map d.blocks.now (λ (s : ℕ × Block). s.1) in
+    let then : SeenDir → Events = behind dir name c.args.ver g in
+    let follows = c.in-All.ensures.follows then (space_of seen) (first_names g dir then seen c.all.result c.all.ensures.locks c.all.ensures.blocks (order dir name c.args.ver seen c.requires.fits)) in
+    let few = dir_few dir name c.args.ver seen c.requires.fits d rest.locks.now rest.blocks.now
+    (λ next. (λ i. following (through_names g dir next) (sym c.all.ensures.locks i) (sym c.all.ensures.blocks i) (space_of seen)) ∙ c.in-All.ensures.need next (space_of seen)) follows in
+    let count = length-map c.in-All.d.blocks.now (λ (s : ℕ × Block). s.1) in
     omega arith
 
 pub dir_looked-requires-clause-inside : goal.dir_looked-requires-clause-inside
@@ -36,10 +39,39 @@ dir_looked-requires-clause-inside c =
     let seen = c.args.seen.now in
     let g = seen.geometry in
     let dir = c.args.dir in
-    let d = c.in-All.d in
+    let name = c.args.name.now in
+    let d = dir_seen c.in-All.d in
     let rest = c.in-All.rest in
-    behind_inside dir c.args.name.now c.args.ver seen c.requires.fits (dir_seen d) rest.locks.now rest.blocks.now
-    (λ next. (λ i. following (through_names g dir next) (sym c.all.ensures.locks i) (sym c.all.ensures.blocks i) (space_of seen)) ∙ c.in-All.ensures.need next (space_of seen))
+    let then : SeenDir → Events = behind dir name c.args.ver g in
+    let follows = c.in-All.ensures.follows then (space_of seen) (first_names g dir then seen c.all.result c.all.ensures.locks c.all.ensures.blocks (order dir name c.args.ver seen c.requires.fits)) in
+    behind_inside dir name c.args.ver seen c.requires.fits d rest.locks.now rest.blocks.now
+    (λ next. (λ i. following (through_names g dir next) (sym c.all.ensures.locks i) (sym c.all.ensures.blocks i) (space_of seen)) ∙ c.in-All.ensures.need next (space_of seen)) follows
+
+pub dir_looked-requires-clause-followed : goal.dir_looked-requires-clause-followed
+dir_looked-requires-clause-followed c =
+    let seen = c.args.seen.now in
+    let g = seen.geometry in
+    let dir = c.args.dir in
+    let name = c.args.name.now in
+    let d = dir_seen c.in-All.d in
+    let rest = c.in-All.rest in
+    let then : SeenDir → Events = behind dir name c.args.ver g in
+    let follows = c.in-All.ensures.follows then (space_of seen) (first_names g dir then seen c.all.result c.all.ensures.locks c.all.ensures.blocks (order dir name c.args.ver seen c.requires.fits)) in
+    behind_followed dir name c.args.ver seen c.requires.fits d rest.locks.now rest.blocks.now
+    (λ next. (λ i. following (through_names g dir next) (sym c.all.ensures.locks i) (sym c.all.ensures.blocks i) (space_of seen)) ∙ c.in-All.ensures.need next (space_of seen)) follows
+
+pub dir_looked-requires-clause-lone : goal.dir_looked-requires-clause-lone
+dir_looked-requires-clause-lone c =
+    let seen = c.args.seen.now in
+    let g = seen.geometry in
+    let dir = c.args.dir in
+    let name = c.args.name.now in
+    let d = dir_seen c.in-All.d in
+    let rest = c.in-All.rest in
+    let then : SeenDir → Events = behind dir name c.args.ver g in
+    let follows = c.in-All.ensures.follows then (space_of seen) (first_names g dir then seen c.all.result c.all.ensures.locks c.all.ensures.blocks (order dir name c.args.ver seen c.requires.fits)) in
+    behind_lone dir name c.args.ver seen c.requires.fits d rest.locks.now rest.blocks.now
+    (λ next. (λ i. following (through_names g dir next) (sym c.all.ensures.locks i) (sym c.all.ensures.blocks i) (space_of seen)) ∙ c.in-All.ensures.need next (space_of seen)) follows
 
 pub returns-in-Next : goal.returns-in-Next
 unfolding delete_events
@@ -58,8 +90,11 @@ dir_looked-requires-clause-locked c =
     let name = c.args.name.now in
     let d = dir_seen c.in-All.d in
     let rest = c.in-All.rest in
-    lock_so g d (entry_of (versions name (entries_of d)) c.args.ver) (space_of seen) (HasNoSpace (space_of seen)) rest.locks.now rest.blocks.now
-    (c.in-All.ensures.follows (behind dir name c.args.ver g) (space_of seen) (first_names g dir (behind dir name c.args.ver g) seen c.all.result c.all.ensures.locks c.all.ensures.blocks (order dir name c.args.ver seen c.requires.fits)))
+    let then : SeenDir → Events = behind dir name c.args.ver g in
+    let follows = c.in-All.ensures.follows then (space_of seen) (first_names g dir then seen c.all.result c.all.ensures.locks c.all.ensures.blocks (order dir name c.args.ver seen c.requires.fits)) in
+    let lone = behind_lone dir name c.args.ver seen c.requires.fits d rest.locks.now rest.blocks.now
+    (λ next. (λ i. following (through_names g dir next) (sym c.all.ensures.locks i) (sym c.all.ensures.blocks i) (space_of seen)) ∙ c.in-All.ensures.need next (space_of seen)) follows in
+    lock_so g d (entry_of (versions name (entries_of d)) c.args.ver) (space_of seen) (HasNoSpace (space_of seen)) rest.locks.now rest.blocks.now lone follows
 
 pub returns-in-All : goal.returns-in-All
 unfolding delete_events

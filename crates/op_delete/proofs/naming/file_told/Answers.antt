@@ -9,5 +9,5 @@ returns-in-None-clause-told c = λ o space follows.
 
 pub returns-in-Some-2-clause-told : goal.returns-in-Some-2-clause-told
 returns-in-Some-2-clause-told c = λ o space follows.
-    lock_told c.args.g.now (dir_seen c.args.d.now) o space c.args.rest follows c.in-Some.n (record { locks = c.in-Some.field-0-1; blocks = c.args.rest.blocks }) c.header_passed-in-Some-2.result (sym c.in-Some.ensures) refl
+    lock_told c.args.g.now (dir_seen c.args.d.now) o space c.args.rest follows c.in-Some.n (record { locks = c.in-Some.field-0-1; blocks = c.args.rest.blocks }) c.header_passed-in-Some-2.result (sym c.in-Some.ensures) refl c.requires.lone
     c.header_passed-in-Some-2.ensures.passed

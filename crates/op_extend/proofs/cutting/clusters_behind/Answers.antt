@@ -3,7 +3,7 @@ use Rattle.fx_header.specs.declared.run.Run.{Run}
 use Rattle.op_law.specs.Freeing.{rising}
 use Rattle.op_law.specs.SeenFiles.{file_clusters}
 use Rattle.op_steps.specs.Seeing.{file_seen}
-use Rattle.op_extend.proofs.FewerClusters.{first_ones, dropped}
+use Rattle.op_extend.proofs.FileClusters.{first_ones, dropped}
 use Rattle.op_extend.proofs.cutting.clusters_behind.Goals as goal
 
 pub returns : goal.returns

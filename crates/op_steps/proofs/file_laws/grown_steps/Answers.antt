@@ -1,5 +1,5 @@
-use Rattle.vol_under.specs.Chains.{anywhere}
 use Rattle.op_steps.proofs.GrownSteps.{grown_steps}
+use Rattle.vol_under.specs.Chains.{anywhere}
 use Rattle.op_steps.proofs.file_laws.grown_steps.Goals as goal
 
 pub returns : goal.returns

@@ -14,5 +14,6 @@ returns g c =
     let told = rw c.in-Some.is at c.in_ok-cat.ensures in
     let above : nat_lt 11 c.args.channel.file.num ≡ true = search rules in
     let plain : is_plain_file (in_use cat c.args.channel.file) ≡ true = search rules in
-    begins x c.requires.of cat c.args.channel c.requires.mode above plain _ bs c.requires.lawful (catalogue_is_spelt bs cat c.requires.size.from c.requires.size.to c.blocks_are_whole.ensures told) (c.is_accounted.ensures.0 (search rules))
-    c.geometry.ensures.told refl c.new.ensures c.new-2.ensures (record { clusters = c.new-3.ensures; number = refl; short = refl })
+    let fits = begins x c.requires.of cat c.args.channel c.requires.mode above plain _ bs c.requires.lawful (catalogue_is_spelt bs cat c.requires.size.from c.requires.size.to c.blocks_are_whole.ensures told) (c.is_accounted.ensures.0 (search rules))
+    c.geometry.ensures.told refl c.new.ensures c.new-2.ensures (record { clusters = c.new-3.ensures; number = refl; short = refl }) in
+    record { fits = fits; short = refl }

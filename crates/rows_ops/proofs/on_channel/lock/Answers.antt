@@ -1,5 +1,5 @@
 use Rattle.std.proofs.Common.{sym, subst}
-use Rattle.op_law.specs.Fits.{FitsOn}
+use Rattle.rows_ops.specs.Alone.{IsSeenOpen}
 use Rattle.rows_ops.proofs.Meeting.{locked}
 use Rattle.rows_ops.proofs.on_channel.lock.Goals as goal
 
@@ -8,5 +8,5 @@ returns g c =
     let x = g.O.Operation.cmd_is c.args.op.now in
     let seen = c.args.seen.now in
     let all = c.args.blocks.now in
-    subst (λ ls. FitsOn x (record seen { locks = ls }) all) (sym c.in_ok-push.ensures.ok)
-    (locked x seen all c.args.name c.args.mode c.requires.lawful c.requires.fits c.requires.need)
+    subst (λ ls. IsSeenOpen x all (record seen { locks = ls })) (sym c.in_ok-push.ensures.ok)
+    (record { fits = locked x seen all c.args.name c.args.mode c.requires.lawful c.requires.fits.fits c.requires.need; short = c.requires.fits.short })

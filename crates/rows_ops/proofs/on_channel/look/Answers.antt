@@ -1,6 +1,6 @@
 use Rattle.std.proofs.Common.{[], sym, subst, get_or}
 use Rattle.std.proofs.lemmas.Option.{slice_get-get_or}
-use Rattle.op_law.specs.Fits.{FitsOn}
+use Rattle.rows_ops.specs.Alone.{IsSeenOpen}
 use Rattle.rows_ops.proofs.Meeting.{looked}
 use Rattle.rows_ops.proofs.on_channel.look.Goals as goal
 
@@ -10,5 +10,5 @@ returns g c =
     let seen = c.args.seen.now in
     let all = c.args.blocks.now in
     let at = slice_get-get_or all c.args.lbn [] c.requires.within in
-    subst (λ bs. FitsOn x (record seen { blocks = bs }) all) (sym c.in_ok-push.ensures.ok)
-    (looked x seen all c.args.lbn (get_or all c.args.lbn []) c.requires.lawful c.requires.fits c.requires.need at)
+    subst (λ bs. IsSeenOpen x all (record seen { blocks = bs })) (sym c.in_ok-push.ensures.ok)
+    (record { fits = looked x seen all c.args.lbn (get_or all c.args.lbn []) c.requires.lawful c.requires.fits.fits c.requires.fits.short c.requires.need at; short = c.requires.fits.short })

@@ -4,7 +4,7 @@ use Rattle.plain_cat.specs.declared.cat.Cat.{Cat}
 use Rattle.plain_rules.specs.Mending.{without_leaks}
 use Rattle.plain_mends.specs.Waiting.{Settled, LostIsWritten}
 use Rattle.vol_mends.proofs.StartSteps.{start_is_settled}
-use Rattle.vol_rebuild.specs.Steps.{IsOfFiles}
+use Rattle.vol_rebuild.specs.Steps.{leaking, IsOfFiles}
 use Rattle.vol_rebuild.proofs.Reading.{few_flags}
 use Rattle.vol_rebuild.proofs.Stepping.{first_well, next_well, next_out, ends_well}
 use Rattle.vol_rebuild.proofs.Finishing.{rebuilt}
@@ -43,7 +43,7 @@ returns-in_err-gone-clause-step g c =
     next_out _ _ _ _ _ _ _ _ _ _ _ _ _ refl p.1 p.2 s3 c.in_err-gone.ensures.step
 
 pub clear_tails-requires-clause-told : goal.clear_tails-requires-clause-told
-clear_tails-requires-clause-told g c = (c.free_slots.new.cat, c.in_ok-gone.ensures.ok.told)
+clear_tails-requires-clause-told g c = let t = c.in_ok-gone.ensures.ok.told in (leaking c.free_slots.new.cat t.leaked t.flags, t.told)
 
 pub returns-in_err-clear_tails-clause-step : goal.returns-in_err-clear_tails-clause-step
 returns-in_err-clear_tails-clause-step g c =
@@ -55,10 +55,15 @@ returns-in_err-clear_tails-clause-step g c =
     next_out _ _ _ _ _ _ _ _ _ _ _ _ _ refl p.1 p.2 s4 c.in_err-clear_tails.ensures.step
 
 pub set_all_bits-requires-clause-told : goal.set_all_bits-requires-clause-told
-set_all_bits-requires-clause-told g c = (c.free_slots.new.cat, (c.in_ok-clear_tails.ensures.ok c.free_slots.new.cat c.in_ok-gone.ensures.ok.told).told)
+set_all_bits-requires-clause-told g c =
+    let t = c.in_ok-gone.ensures.ok.told in
+    let x = leaking c.free_slots.new.cat t.leaked t.flags in
+    (x, (c.in_ok-clear_tails.ensures.ok x t.told).told)
 
 pub set_all_bits-requires-clause-clean : goal.set_all_bits-requires-clause-clean
-set_all_bits-requires-clause-clean g c = (c.in_ok-clear_tails.ensures.ok c.free_slots.new.cat c.in_ok-gone.ensures.ok.told).clean
+set_all_bits-requires-clause-clean g c =
+    let t = c.in_ok-gone.ensures.ok.told in
+    (c.in_ok-clear_tails.ensures.ok (leaking c.free_slots.new.cat t.leaked t.flags) t.told).clean
 
 pub returns-in_err-set_all_bits-clause-step : goal.returns-in_err-set_all_bits-clause-step
 returns-in_err-set_all_bits-clause-step g c =
@@ -72,7 +77,9 @@ returns-in_err-set_all_bits-clause-step g c =
 
 pub set_usages-requires-clause-told : goal.set_usages-requires-clause-told
 set_usages-requires-clause-told g c =
-    (without_leaks c.free_slots.new.cat, record { same = refl; factor = refl }, (c.in_ok-set_all_bits.ensures.ok c.free_slots.new.cat (c.in_ok-clear_tails.ensures.ok c.free_slots.new.cat c.in_ok-gone.ensures.ok.told).told).told)
+    let t = c.in_ok-gone.ensures.ok.told in
+    let x = leaking c.free_slots.new.cat t.leaked t.flags in
+    (without_leaks x, record { same = refl; factor = refl }, (c.in_ok-set_all_bits.ensures.ok x (c.in_ok-clear_tails.ensures.ok x t.told).told).told)
 
 pub returns-in_err-set_usages-clause-step : goal.returns-in_err-set_usages-clause-step
 returns-in_err-set_usages-clause-step g c =
@@ -105,7 +112,9 @@ returns-clause-mended g c =
     let s5 = next_well _ _ _ _ _ _ _ _ _ _ _ refl s4 c.in_ok-clear_tails.ensures.step in
     let s6 = next_well _ _ _ _ _ _ _ _ _ _ _ refl s5 c.in_ok-set_all_bits.ensures.step in
     let s7 = next_well _ _ _ _ _ _ _ _ _ _ _ refl s6 c.in_ok-set_usages.ensures.step in
-    let files : IsOfFiles c.free_slots.new.cat (without_leaks c.free_slots.new.cat) = record { same = refl; factor = refl } in
+    let t = c.in_ok-gone.ensures.ok.told in
+    let x = leaking c.free_slots.new.cat t.leaked t.flags in
+    let files : IsOfFiles c.free_slots.new.cat (without_leaks x) = record { same = refl; factor = refl } in
     rebuilt c.args.g.now c.args.m.now.blocks c.set_usages.new.m.blocks c.args.cat.now
     (record { entered = c.in_ok-entered.entered; removed = c.in_ok-removed.removed; gone = c.in_ok-gone.gone; clusters = c.args.cat.now.leaked; numbers = c.leaked_numbers-numbers.result })
     (record {
@@ -124,9 +133,9 @@ returns-clause-mended g c =
       enters = c.in_ok-entered.ensures.ok;
       frees = c.in_ok-gone.ensures.ok;
       cleared_blocks = c.clear_tails.new.m.blocks;
-      clears = c.in_ok-clear_tails.ensures.ok c.free_slots.new.cat c.in_ok-gone.ensures.ok.told;
-      tidies = c.in_ok-set_all_bits.ensures.ok c.free_slots.new.cat (c.in_ok-clear_tails.ensures.ok c.free_slots.new.cat c.in_ok-gone.ensures.ok.told).told;
-      sums = c.in_ok-set_usages.ensures.ok (without_leaks c.free_slots.new.cat) files (c.in_ok-set_all_bits.ensures.ok c.free_slots.new.cat (c.in_ok-clear_tails.ensures.ok c.free_slots.new.cat c.in_ok-gone.ensures.ok.told).told).told;
+      clears = c.in_ok-clear_tails.ensures.ok x t.told;
+      tidies = c.in_ok-set_all_bits.ensures.ok x (c.in_ok-clear_tails.ensures.ok x t.told).told;
+      sums = c.in_ok-set_usages.ensures.ok (without_leaks x) files (c.in_ok-set_all_bits.ensures.ok x (c.in_ok-clear_tails.ensures.ok x t.told).told).told;
       clusters = refl;
       numbers = c.leaked_numbers-numbers.ensures;
     })

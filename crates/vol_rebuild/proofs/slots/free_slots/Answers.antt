@@ -1,7 +1,7 @@
 use Rattle.std.proofs.Common.{◌∙◌, refl, sym, arith}
 use Rattle.std.specs.Prelude.{slice_index_or}
 use Rattle.std.proofs.lemmas.Result.{err_from_is_err_and}
-use Rattle.vol_rebuild.proofs.Stepping.{next_well, next_out}
+use Rattle.vol_rebuild.proofs.Stepping.{step_none, next_well, next_out}
 use Rattle.vol_rebuild.proofs.Reading.{few_files}
 use Rattle.vol_rebuild.proofs.Looping.{rest_at}
 use Rattle.vol_rebuild.proofs.Freeing.{first_of_rest, gone_on}
@@ -9,6 +9,18 @@ use Rattle.vol_rebuild.proofs.slots.free_slots.Goals as goal
 
 pub gone_numbers-requires : goal.gone_numbers-requires
 gone_numbers-requires g c = few_files c.args.g.now c.args.m.now.blocks c.args.cat.now c.requires.told
+
+pub loop-n-init : goal.loop-n-init
+loop-n-init g c = record {
+  step = step_none _ _ _ _ (λ n. n);
+  told = record { leaked = c.args.cat.now.leaked; flags = c.args.cat.now.leaked_numbers; told = c.requires.told };
+  settled = c.requires.settled;
+  none = c.requires.none;
+  full = c.requires.full;
+  left = c.deref-n-items.ensures.value ∙ c.in_ok-numbers.ensures.numbers;
+  files = omega arith;
+  singles = λ i is h. h;
+}
 
 pub free-requires-clause-gone : goal.free-requires-clause-gone
 free-requires-clause-gone g c =

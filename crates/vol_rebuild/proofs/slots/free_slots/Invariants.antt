@@ -1,9 +1,9 @@
 use Rattle.std.proofs.Common.{◌≡◌, ◌+◌, [], true, false, drop}
 use Rattle.plain_rules.specs.Mending.{lost}
 use Rattle.plain_mends.specs.Waiting.{Settled, AreFull}
-use Rattle.vol_mends.specs.Told.{IsTold, KeepsSingles}
+use Rattle.vol_mends.specs.Told.{KeepsSingles}
 use Rattle.vol_rebuild.specs.Leaving.{gone_numbers}
-use Rattle.vol_rebuild.specs.Steps.{used_count}
+use Rattle.vol_rebuild.specs.Steps.{TellsFiles, used_count}
 use Rattle.vol_rebuild.specs.Ways.{IsStep}
 use Rattle.vol_rebuild.proofs.slots.free_slots.Given as goal
 
@@ -12,7 +12,7 @@ invariant-loop-n g l =
     let I = g.I.ImageDev in
     record {
       step : IsStep l.fn.m.blocks l.m.blocks (I.told l.fn.m.image) (I.told l.m.image) (I.faults l.fn.m.image) (I.faults l.m.image) ⊥;
-      told : IsTold l.g l.m.blocks l.cat;
+      told : TellsFiles l.g l.m.blocks l.cat;
       settled : Settled l.cat;
       none : lost l.cat false ≡ [];
       full : AreFull l.cat (lost l.cat true);
