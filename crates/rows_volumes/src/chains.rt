@@ -28,7 +28,7 @@ pub(crate) fn listed() -> [Block; 64] {
 }
 
 /// The same with a second header, number 13 and sequence number 1, which lists cluster 27.
-fn with_second() -> [Block; 64] {
+pub(crate) fn with_second() -> [Block; 64] {
     let mut b = listed();
     put_bytes(&mut b[8], 1, &[0x3f]);
     b[21] = header(13, 1, 0, 54, 2);

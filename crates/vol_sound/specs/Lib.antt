@@ -1,0 +1,13 @@
+pub mod Begun
+pub mod Beyond
+pub mod BeyondLaws
+pub mod Clusters
+pub mod FixedParts
+pub mod Freeing
+pub mod Kept
+pub mod Leading
+pub mod Patched
+pub mod Ranks
+pub mod Slots
+pub mod Sound
+pub mod Unlooped
