@@ -1,16 +1,16 @@
--- What a header tells after its runs alone were written, its blocks, or the next header of its file.
+-- What a header tells after its runs alone were written, its blocks, the next header of its file, or its owner.
 use Rattle.std.proofs.Common.{◌≡◌, ◌∙◌, ◌+◌, ◌*◌, ◌/◌, ◌%◌, ◌^◌, ◌<◌, ◌≤◌, ℕ, List, length, true, refl, sym, ap, arith, Ok}
-use Rattle.base_words.specs.Fields.{field, summed, has_sum}
+use Rattle.base_words.specs.Fields.{field, summed, has_sum, put_field}
 use Rattle.base_words.specs.Tables.{Table, laid}
-use Rattle.base_words.proofs.Puts.{length-summed}
+use Rattle.base_words.proofs.Puts.{length-put_field, length-summed, field-put_same}
 use Rattle.base_words.proofs.Tables.{rises, end_of, length-laid, field-laid, field-laid_below, field-laid_above}
 use Rattle.fx_header.specs.declared.run.Run.{Run}
 use Rattle.fx_header.specs.declared.slot.Hdr.{Hdr}
 use Rattle.fx_header.specs.declared.slot.Slot.TheVariants.{Used}
 use Rattle.fx_header.specs.Pointers.{AreRuns, merged, map_words, runs_of}
-use Rattle.fx_header.specs.Headers.{map_offset, access_offset, map_area, runs_in, blocks_of, link_of, link_seq_of, has_offsets, has_map, fields_of, header_read, high_first_rows, id_rows, with_map, with_blocks, with_link, KeepsTests, LeavesRuns, EndsWithin}
+use Rattle.fx_header.specs.Headers.{map_offset, access_offset, map_area, runs_in, blocks_of, link_of, link_seq_of, has_offsets, has_map, fields_of, header_read, high_first_rows, id_rows, with_map, with_blocks, with_link, with_owner, KeepsTests, LeavesRuns, EndsWithin}
 use Rattle.fx_header.proofs.SpellLemmas.{runs_of-words}
-use Rattle.fx_header.proofs.SoundLemmas.{Same, same-of, same-field, same-byte, same-within, same-summed, same-same, same-used, same-level, same-offsets, same-volume, same-segment, same-area, sum-true, sound-reads, reads-sound}
+use Rattle.fx_header.proofs.SoundLemmas.{Same, same-of, same-field, same-byte, same-within, same-summed, same-same, same-field_below, same-field_above, same-used, same-level, same-offsets, same-volume, same-segment, same-area, sum-true, sound-reads, reads-sound}
 use Rattle.fx_header.proofs.SetterLemmas.{Tells, ByteWithin, tells-of, tells-fields, ends-told, told-ends, high-length, high-reads, high-below, high-above}
 use Rattle.fx_header.proofs.RunsLemmas.{field-byte, map-mapped, map-true}
 
@@ -251,3 +251,70 @@ module _ (b : List ℕ) (num seq : ℕ) (long : length b ≡ 512) where
       let ends = ends-told b h s in
       reads-again (with_link b num seq) b h (record h { ext = num; ext_seq = seq }) link-tests (link-runs s.offsets s.map).1 read
       (link-fields fits seq-fits ∙ ap (λ (g : Hdr). record g { ext = num; ext_seq = seq }) s.fields) ends.0 ends.1
+
+-- ---- the owner
+
+owner-around : (b : List ℕ) (owner : ℕ) → length b ≡ 512 → Around (with_owner b owner) b 60 64
+unfolding with_owner
+owner-around b owner long =
+    let m : List ℕ = put_field b 60 4 owner in
+    let n : List ℕ = summed m in
+    let len : length m ≡ 512 = length-put_field b 60 4 owner (omega arith) ∙ long in
+    record {
+      long = length-summed m len;
+      sum = sum-true m len;
+      low = same-same n m b 0 60 (same-summed m 0 60 len (omega arith)) (same-field_below b 60 4 owner 0 60 (omega arith) (omega arith));
+      high = same-same n m b 64 510 (same-summed m 64 510 len (omega arith)) (same-field_above b 60 4 owner 64 510 (omega arith) (omega arith));
+    }
+
+pub owner-told : (b : List ℕ) (owner : ℕ) → length b ≡ 512 → owner < 2 ^ 32 → field (with_owner b owner) 60 4 ≡ owner
+unfolding with_owner
+owner-told b owner long fits =
+    let m : List ℕ = put_field b 60 4 owner in
+    let n : List ℕ = summed m in
+    let len : length m ≡ 512 = length-put_field b 60 4 owner (omega arith) ∙ long in
+    same-field n m 0 510 60 4 (same-summed m 0 510 len (omega arith)) (omega arith) (omega arith) ∙ field-put_same b 60 4 owner (omega arith) (omega arith)
+
+module _ (b : List ℕ) (owner : ℕ) (long : length b ≡ 512) where
+  pub owner-fields : owner < 2 ^ 32 → fields_of (with_owner b owner) ≡ record (fields_of b) { owner = owner }
+  owner-fields fits =
+      let n : List ℕ = with_owner b owner in
+      let w = owner-around b owner long in
+      let t = tells-of b (fields_of b) refl in
+      let kept : (p v : ℕ) → p + v ≤ 60 → field n p v ≡ field b p v = λ p v h. same-field n b 0 60 p v w.low (omega arith) (omega arith) in
+      let flags : field n 52 4 ≡ field b 52 4 = kept 52 4 (omega arith) in
+      tells-fields n (record (fields_of b) { owner = owner }) (record {
+        num = rw (same-byte n b 0 60 13 w.low (omega arith) (omega arith), kept 8 2 (omega arith)) t.num;
+        seq = kept 10 2 (omega arith) ∙ t.seq;
+        owner = owner-told b owner long fits;
+        dir = rw flags t.dir;
+        marked = rw flags t.marked;
+        blocks = rw (kept 24 2 (omega arith), kept 26 2 (omega arith)) t.blocks;
+        mark = same-field n b 64 510 76 4 w.high (omega arith) (omega arith) ∙ t.mark;
+        end = rw (kept 28 2 (omega arith), kept 30 2 (omega arith)) t.end;
+        byte = kept 32 2 (omega arith) ∙ t.byte;
+        seg = kept 4 2 (omega arith) ∙ t.seg;
+        ext = rw (same-byte n b 0 60 19 w.low (omega arith) (omega arith), kept 14 2 (omega arith)) t.ext;
+        ext_seq = kept 16 2 (omega arith) ∙ t.ext_seq;
+      })
+
+  pub owner-tests : KeepsTests b (with_owner b owner)
+  owner-tests =
+      let w = owner-around b owner long in
+      tests-again (with_owner b owner) b w.sum (same-within (with_owner b owner) b 0 60 0 14 w.low (omega arith) (omega arith))
+
+  pub owner-runs : LeavesRuns b (with_owner b owner)
+  owner-runs off fits =
+      let n : List ℕ = with_owner b owner in
+      let w = owner-around b owner long in
+      let same =
+      same-area n b (w.long ∙ sym long) off fits (same-within n b 0 60 0 14 w.low (omega arith) (omega arith)) (same-within n b 0 60 58 59 w.low (omega arith) (omega arith))
+      (same-within n b 64 510 80 510 w.high (omega arith) (omega arith)) in
+      (ap runs_of same.0, same.1)
+
+  pub owner-reads : (h : Hdr) → owner < 2 ^ 32 → header_read b ≡ Ok (Used h) → header_read (with_owner b owner) ≡ Ok (Used (record h { owner = owner }))
+  owner-reads h fits read =
+      let s = reads-sound b h read in
+      let ends = ends-told b h s in
+      reads-again (with_owner b owner) b h (record h { owner = owner }) owner-tests (owner-runs s.offsets s.map).1 read
+      (owner-fields fits ∙ ap (λ (g : Hdr). record g { owner = owner }) s.fields) ends.0 ends.1

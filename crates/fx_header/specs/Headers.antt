@@ -211,6 +211,10 @@ scattered b = with_flags b (without 32 (field b 52 4) (2 ^ 7))
 unfoldable pub with_mark : Block → ℕ → Block
 with_mark b mark = summed (put_field b 76 4 mark)
 
+-- a header with another owner
+unfoldable pub with_owner : Block → ℕ → Block
+with_owner b owner = summed (put_field b 60 4 owner)
+
 -- a header with another end of file
 unfoldable pub with_end : Block → ℕ → ℕ → Block
 with_end b end byte = summed (put_field (laid (high_first_rows 28 end) b) 32 2 byte)

@@ -14,9 +14,9 @@
 //! memory.
 //!
 //! A file may have up to 16 headers, each of which names the next one. The reader takes each of them by itself: it follows no
-//! link, and does not compare the blocks of the file, which the first header says, with the runs. `set_map`, `set_blocks` and
-//! `set_link` write the runs of one header, the blocks of the file and the next header, each alone; the other fields and tests
-//! stay (`fields`, `tests`).
+//! link, and does not compare the blocks of the file, which the first header says, with the runs. `set_map`, `set_blocks`,
+//! `set_link` and `set_owner` write the runs of one header, the blocks of the file, the next header and the owner, each alone; the
+//! other fields and tests stay (`fields`, `tests`).
 //!
 //! `vol_parts`, the writes of commands (`op_steps`, `op_create`) and mending use it.
 #![tactic(auto)]
@@ -37,4 +37,5 @@ pub use run::Run;
 pub use slot::{Hdr, HeaderFault, Slot};
 pub use write::{
     clear_contig, free_slot, new_header, set_blocks, set_end, set_link, set_mark, set_marked,
+    set_owner,
 };

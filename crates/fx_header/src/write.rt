@@ -3,7 +3,7 @@ ghost use Rattle.base_words.specs.Fields.{put_field};
 ghost use Rattle.base_words.specs.Tables.{laid};
 ghost use Rattle.fx_header.specs.declared.slot.Hdr.{Hdr};
 ghost use Rattle.fx_header.specs.declared.slot.Slot.TheVariants.{Free, Used};
-ghost use Rattle.fx_header.specs.Headers.{filled, high_first_rows, id_rows, area_rows, size_rows, owner_rows, with_name, flags_of, header_bytes, freed, marked, scattered, with_mark, with_end, with_blocks, with_link, has_offsets, map_area, fields_of, header_read, KeepsTests, LeavesRuns, IsMade, EndsWithin, ReadsBack};
+ghost use Rattle.fx_header.specs.Headers.{filled, high_first_rows, id_rows, area_rows, size_rows, owner_rows, with_name, flags_of, header_bytes, freed, marked, scattered, with_mark, with_owner, with_end, with_blocks, with_link, has_offsets, map_area, fields_of, header_read, KeepsTests, LeavesRuns, IsMade, EndsWithin, ReadsBack};
 
 use crate::flags::FileFlags;
 use crate::slot::Hdr;
@@ -229,6 +229,20 @@ pub fn set_blocks(b: &mut Block, blocks: u32)
         → header_read b.new ≡ Ok (Used (record h { blocks = blocks })) }
 {
     put_high_first(b, 24, blocks);
+    set_sum(b);
+}
+
+/// Writes the owner's UIC (FILEOWNER), the group times 65,536 plus the member. Whichever of the file's headers it is, it reads
+/// as before with that owner.
+#[tactic(auto, unfolding(crate::specs::Headers::with_owner))]
+pub fn set_owner(b: &mut Block, uic: u32)
+    ensures written { b.new ≡ with_owner b.old uic }
+    ensures fields { fields_of b.new ≡ record (fields_of b.old) { owner = uic } }
+    ensures runs { LeavesRuns b.old b.new }
+    ensures tests { KeepsTests b.old b.new }
+    ensures reads { (h : Hdr) → header_read b.old ≡ Ok (Used h) → header_read b.new ≡ Ok (Used (record h { owner = uic })) }
+{
+    put_long(b, 60, uic);
     set_sum(b);
 }
 

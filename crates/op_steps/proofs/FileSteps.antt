@@ -37,6 +37,7 @@ use Rattle.vol_spell.proofs.OneHeader.{within_file, alone_size, alone_split}
 use Rattle.vol_spell.proofs.Parts.{numberless, in_use, told, part_owned}
 use Rattle.vol_spell.proofs.Frames.{on_volume}
 use Rattle.vol_spell.proofs.Viewing.{alone_set, header_set, outside_stays}
+use Rattle.vol_spell.proofs.HeadSlots.{no_parts}
 use Rattle.vol_under.specs.UnderWay.{PlannedWrite, bare}
 use Rattle.vol_under.specs.Chains.{End, IsStep, Steps}
 use Rattle.vol_under.specs.Filing.{filed, Takes}
@@ -194,7 +195,7 @@ module _ (k : Chain) (parent : Fid) (n : ℕ) (e : NewEntry) (qs : List ℕ) (x 
         owned = subst (IsFileMove k.node n) (sym number_out) refl;
         head = subst (IsHead n) (sym reads) refl;
         alike = λ ne. absurd (ne refl);
-        plain = plain;
+        parts = no_parts n plain;
         moves = t.moves;
         tells = subst (λ (z : Told). Tells k.geometry new n z (body_blocks mid_blocks n z) (slot.Used e.file)) (sym (alone_set k.geometry mid_blocks n block (fields_for k.geometry n e.file) len first enough)) told_then;
         reserved = λ old low at. let above = can.above in absurd (omega arith);

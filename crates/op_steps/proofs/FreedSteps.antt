@@ -28,6 +28,7 @@ use Rattle.vol_spell.proofs.Heads.{first_reads}
 use Rattle.vol_spell.proofs.HeadFiles.{not_structure}
 use Rattle.vol_spell.proofs.OneHeader.{none_split}
 use Rattle.vol_spell.proofs.Viewing.{none_set}
+use Rattle.vol_spell.proofs.HeadSlots.{no_parts}
 use Rattle.vol_under.specs.Chains.{End}
 use Rattle.vol_under.specs.Filing.{brought_out, AreFiled, Gives}
 use Rattle.vol_under.proofs.Files.{file_gives}
@@ -134,7 +135,7 @@ module _ (k : Chain) (n : ℕ) (h : Hdr) (f : File) (x : Cat) (bs : List Block) 
         owned = subst (IsFileMove k.node n) (sym numbered) refl;
         head = subst (IsHead n) (sym reads) tt;
         alike = λ ne. absurd (ne refl);
-        plain = not_structure n is.above;
+        parts = no_parts n (not_structure n is.above);
         moves = gives.moves;
         tells = subst (λ (q : ℕ). Tells g new n (told_of g (slice_set bs (header_place g n) (freed h.seq)) n) (body_blocks bs n (told_of g (slice_set bs (header_place g n) (freed h.seq)) n)) (slot.Free q)) (sym seq_is)
             (subst (λ (z : Told). Tells g new n z (body_blocks bs n z) (slot.Free h.seq)) (sym (none_set g bs n (freed h.seq) h.seq len (ap as_first reads))) tells);

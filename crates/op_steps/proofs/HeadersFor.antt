@@ -24,6 +24,7 @@ use Rattle.vol_spell.specs.Kinds.{IsHeaderFor}
 use Rattle.vol_spell.proofs.Parts.{low}
 use Rattle.vol_spell.proofs.Runs.{lbns_spread}
 use Rattle.vol_spell.proofs.HeadFiles.{not_structure}
+use Rattle.vol_spell.proofs.HeadSlots.{no_parts}
 use Rattle.op_steps.proofs.Leading.{HasHeaders, IsChainWith, headers_tell}
 
 -- The block b in the header slot m of file n, which is no directory and no system file: after it the file has the first header h,
@@ -95,7 +96,7 @@ module _ (g : Geometry) (bs : List Block) (own new : Owners) (c : Cat) (node n m
     owned = subst (IsFileMove node n) (sym owned) refl;
     head = for.head;
     alike = for.alike;
-    plain = not_structure n above;
+    parts = no_parts n (not_structure n above);
     moves = for.moves;
     tells = subst (λ (u : Told). Tells g new n u (body_blocks bs n u) (slot.Used f)) (sym told_is) tells;
     reserved = λ old down at. absurd (omega (arith, down, above));

@@ -13,6 +13,8 @@
 //! (`fault`). Laws: a fresh volume is accepted, with the catalogue of a fresh volume (`fresh_volumes_are_accepted`); all but its
 //! system files is free (`fresh_volumes_have_room`).
 //!
+//! `main_entries` and `main_blocks` give what a master file directory says that names the eleven system files alone.
+//!
 //! The job `init` of the top calls uses it.
 #![tactic(auto)]
 
@@ -32,4 +34,5 @@ pub use laws::{
 };
 pub use layout::{Layout, SYSTEM_OWNER, USER_OWNER};
 pub use making::init;
+pub use naming::{main_blocks, main_entries};
 pub use system_texts::text_of;

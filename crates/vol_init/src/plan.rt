@@ -1,18 +1,13 @@
 //! What a volume is made of, with all that needs memory.
-ghost use Rattle.std.specs.Prelude.{◌≡◌, ◌≤◌, ◌-◌, length, true, Ok, IfOk};
-ghost use Rattle.vol_init.specs.Layouts.{IsLayout, reserved_clusters, total, main_entries};
-ghost use Rattle.fx_dir.specs.Directory.{directory, all_entries};
-ghost use Rattle.fx_dir.specs.Entries.{rises};
-ghost use Rattle.fx_dir.specs.Lists.{Each};
-ghost use Rattle.fx_dir.specs.Writing.{IsInForm, IsRanged, IsUniform, name_of};
-ghost use Rattle.base_words.specs.Packing.{Fits};
+ghost use Rattle.std.specs.Prelude.{◌≡◌, ◌≤◌, ◌-◌, length, IfOk};
+ghost use Rattle.vol_init.specs.Layouts.{IsLayout, reserved_clusters, total};
 ghost use Rattle.vol_init.specs.Refusals.{full_label};
 ghost use Rattle.vol_init.specs.Plans.{IsPlan, IsOf};
 
 use crate::Layout;
-use crate::naming::main_entries;
+use crate::naming::{directory_blocks, main_blocks};
 use base_words::Block;
-use fx_dir::{NoMemory, RawEnt, packed};
+use fx_dir::NoMemory;
 use fx_home::Home;
 use std::alloc::Global;
 
@@ -39,23 +34,6 @@ fn full_label(label: &[u8]) -> [u8; 12]
     full
 }
 
-/// The blocks of a directory of one cluster, which has room for these entries.
-fn directory_blocks(alloc: Global, entries: &[RawEnt], cluster: u32) -> Result<Vec<Block>, NoMemory>
-    requires order { rises entries.now ≡ true }
-    requires form { Each IsInForm entries.now }
-    requires ranged { Each IsRanged entries.now }
-    requires uniform { IsUniform entries.now }
-    requires room { Fits name_of cluster entries.now }
-    ensures count { IfOk result (λ v. length v.items ≡ cluster) }
-    ensures read { IfOk result (λ v. directory v.items ≡ Ok entries.now) }
-    ensures listed { IfOk result (λ v. all_entries v.items ≡ entries.now) }
-{
-    match packed(alloc, entries, cluster)? {
-        Some(blocks) => Ok(blocks),
-        None => unreachable!(),
-    }
-}
-
 impl Plan {
     /// The plan of a volume.
     pub(crate) fn new(alloc: Global, layout: Layout, label: &[u8]) -> Result<Plan, NoMemory>
@@ -65,8 +43,7 @@ impl Plan {
         ensures sound { IfOk result IsPlan }
         ensures of { IfOk result (IsOf layout label.now) }
     {
-        let entries = main_entries(alloc)?;
-        let main = directory_blocks(alloc, entries.as_slice(), layout.cluster)?;
+        let main = main_blocks(alloc, layout.cluster)?;
         let none = Vec::new(alloc);
         let lost = directory_blocks(alloc, none.as_slice(), layout.cluster)?;
         let home = Home {

@@ -38,7 +38,7 @@ use Rattle.vol_spell.specs.Spelling.{IsHead, Tells, dir_found, size_in, Spells}
 use Rattle.vol_spell.specs.Views.{IsHeaderSet}
 use Rattle.vol_spell.specs.Kinds.{IsHeaderFor}
 use Rattle.vol_spell.proofs.Heads.{first_reads, first_there, none_told}
-use Rattle.vol_spell.proofs.HeadSlots.{dir_alone}
+use Rattle.vol_spell.proofs.HeadSlots.{no_parts, dir_alone}
 use Rattle.vol_spell.proofs.Parts.{slot_there, told, part_owned}
 use Rattle.vol_spell.proofs.Frames.{on_volume, of_body, apart_by}
 use Rattle.vol_spell.proofs.Placing.{blocks_stay, index-set_here}
@@ -267,7 +267,7 @@ module _ (g : Geometry) (bs : List Block) (c : Cat) (n : ℕ) (f : Hdr) (m : ℕ
     owned = subst (IsFileMove 0 n) (sym owned_m) refl;
     head = subst (IsHead m) (sym for.reads) (subst (IsHead m) reads_x (o.spells.slots.heads m number_m));
     alike = λ other. none_now other ∙ sym (none_before other);
-    plain = not_structure n for.above;
+    parts = no_parts n (not_structure n for.above);
     moves = record { clusters = still (IsFileMove 0 n) o.own.clusters; numbers = still (IsFileMove 0 n) o.own.numbers };
     tells = tells_now;
     reserved = λ was low at. let high = for.above in absurd (omega (arith, low, high));

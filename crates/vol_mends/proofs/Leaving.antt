@@ -41,6 +41,7 @@ use Rattle.base_words.specs.Lists.{Has}
 use Rattle.vol_parts.specs.Catalogues.{flagged}
 use Rattle.vol_parts.proofs.Flagging.{length-flagged}
 use Rattle.vol_spell.proofs.OneHeader.{none_split}
+use Rattle.vol_spell.proofs.HeadSlots.{no_parts}
 use Rattle.vol_mends.proofs.Basics.{clash, lower_or}
 use Rattle.vol_mends.proofs.WriteTold.{Owned, owned, changed_on, home_left}
 use Rattle.vol_mends.proofs.OneWrite.{doubles_told, single_same}
@@ -126,7 +127,7 @@ module _ (g : Geometry) (bs : List Block) (c : Cat) (n : ℕ) (f : File) (b : Bl
     owned = subst (IsFileMove 0 n) (sym in_number) refl;
     head = subst (IsHead n) (sym can.free) tt;
     alike = λ other. absurd (other refl);
-    plain = not_structure n above;
+    parts = no_parts n (not_structure n above);
     moves = to_node n o.own;
     tells = subst (λ (z : Told). Tells g mid n z (body_blocks bs n z) (slot.Free f.seq)) (sym told_now) tells_now;
     reserved = λ old low at. let high = above in absurd (omega (arith, low, high));

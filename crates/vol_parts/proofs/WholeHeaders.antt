@@ -7,9 +7,9 @@ use Rattle.base_words.proofs.Tables.{rises}
 use Rattle.fx_header.specs.declared.run.Run.{Run}
 use Rattle.fx_header.specs.declared.slot.Hdr.{Hdr}
 use Rattle.fx_header.specs.Pointers.{word, long, first_word, pointer_bytes, merged, map_words, blocks_in}
-use Rattle.fx_header.specs.Headers.{has_offsets, map_offset, map_area, high_first_rows, id_rows, area_rows, size_rows, owner_rows, new_rows, filled, with_name, header_bytes, with_flags, marked, scattered, with_mark, with_end, with_words, with_runs, with_map, with_blocks, with_link, freed}
+use Rattle.fx_header.specs.Headers.{has_offsets, map_offset, map_area, high_first_rows, id_rows, area_rows, size_rows, owner_rows, new_rows, filled, with_name, header_bytes, with_flags, marked, scattered, with_mark, with_owner, with_end, with_words, with_runs, with_map, with_blocks, with_link, freed}
 use Rattle.fx_header.proofs.SoundLemmas.{areas-of}
-use Rattle.vol_parts.specs.Laws.{WholeHeader, WholeRuns, WholeMap, WholeBlocks, WholeLink, WholeMark, WholeEnd, WholeMarked, WholeScattered, WholeFreed}
+use Rattle.vol_parts.specs.Laws.{WholeHeader, WholeRuns, WholeMap, WholeBlocks, WholeLink, WholeMark, WholeOwner, WholeEnd, WholeMarked, WholeScattered, WholeFreed}
 use Rattle.vol_parts.proofs.Bytes.{bytes-none, bytes-append, bytes-take, bytes-drop, bytes-replicate, bytes-little}
 use Rattle.vol_parts.proofs.WholeFields.{whole_zeros, whole_put, whole_field, whole_summed, whole-laid}
 use Rattle.fx_header.proofs.NewLemmas.{length-filled}
@@ -37,6 +37,10 @@ whole_scattered b whole = whole-flags b _ whole
 pub whole_mark : WholeMark
 unfolding with_mark
 whole_mark b mark whole = whole_summed (put_field b 76 4 mark) (whole_field b 76 4 mark whole (omega arith))
+
+pub whole_owner : WholeOwner
+unfolding with_owner
+whole_owner b owner whole = whole_summed (put_field b 60 4 owner) (whole_field b 60 4 owner whole (omega arith))
 
 pub whole_end : WholeEnd
 unfolding with_end

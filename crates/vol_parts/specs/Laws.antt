@@ -9,7 +9,7 @@ use Rattle.fx_bitmap.specs.Bits.{bits_put}
 use Rattle.fx_header.specs.declared.run.Run.{Run}
 use Rattle.fx_header.specs.declared.slot.Hdr.{Hdr}
 use Rattle.fx_header.specs.Pointers.{map_words}
-use Rattle.fx_header.specs.Headers.{has_offsets, map_area, header_bytes, with_runs, with_map, with_blocks, with_link, with_mark, with_end, marked, scattered, freed}
+use Rattle.fx_header.specs.Headers.{has_offsets, map_area, header_bytes, with_runs, with_map, with_blocks, with_link, with_mark, with_owner, with_end, marked, scattered, freed}
 use Rattle.fx_dir.specs.declared.RawEnt.{RawEnt}
 use Rattle.fx_dir.specs.declared.Move.{Move}
 use Rattle.fx_dir.specs.Lists.{Each}
@@ -74,6 +74,9 @@ WholeLink = (b : Block) (num seq : ℕ) → IsWholeBlock b → IsWholeBlock (wit
 
 abbrev pub WholeMark : Type 0
 WholeMark = (b : Block) (mark : ℕ) → IsWholeBlock b → IsWholeBlock (with_mark b mark)
+
+abbrev pub WholeOwner : Type 0
+WholeOwner = (b : Block) (owner : ℕ) → IsWholeBlock b → IsWholeBlock (with_owner b owner)
 
 abbrev pub WholeEnd : Type 0
 WholeEnd = (b : Block) (end byte : ℕ) → IsWholeBlock b → IsWholeBlock (with_end b end byte)

@@ -87,20 +87,25 @@ tells_on g own new n h blocks s cs ns t = record {
   slot = t.slot;
 }
 
-structure_stays : (g : Geometry) (bs bs' : List Block) (n : ℕ) (r : Run) → told_of g bs' n ≡ told_of g bs n → IsStructure g bs n r → IsStructure g bs' n r
+pub structure_stays : (g : Geometry) (bs bs' : List Block) (n : ℕ) (r : Run) → told_of g bs' n ≡ told_of g bs n → IsStructure g bs n r → IsStructure g bs' n r
 structure_stays g bs bs' n r h st = record { header = ap (λ (t : Told). is_system_header n (fields_in t.head)) h ∙ st.header; run = ap (λ (t : Told). t.runs) h ∙ st.run }
 
-pub structures_stay : (g : Geometry) (bs : List Block) (l : ℕ) (b : Block) → 1 ≢ l → g.bitmap_lbn ≢ l → ((n : ℕ) → is_structure n ≡ true → told_of g (slice_set bs l b) n ≡ told_of g bs n) → HasStructures g bs → HasStructures g (slice_set bs l b)
-structures_stay g bs l b home control told st =
+-- the whole is there after a write elsewhere than to the home block and the storage control block, where each of the files is
+pub structures_set : (g : Geometry) (bs : List Block) (l : ℕ) (b : Block) → 1 ≢ l → g.bitmap_lbn ≢ l → ((n : ℕ) (r : Run) → is_structure n ≡ true → IsStructure g bs n r → IsStructure g (slice_set bs l b) n r)
+    → HasStructures g bs → HasStructures g (slice_set bs l b)
+structures_set g bs l b home control each st =
     let P : Block → Type 0 = λ x. IsHomeOf g (home_read x) in
     let R : Block → Type 0 = λ x. scb_read x ≡ Ok (record { cluster = g.cluster; blocks = g.blocks }) in
     record {
       home = subst P (sym (get_or-set_other bs l 1 b [] home)) st.home;
       control = subst R (sym (get_or-set_other bs l g.bitmap_lbn b [] control)) st.control;
-      index = structure_stays g bs (slice_set bs l b) 1 _ (told 1 refl) st.index;
-      bitmap = structure_stays g bs (slice_set bs l b) 2 _ (told 2 refl) st.bitmap;
-      quota = structure_stays g bs (slice_set bs l b) 10 _ (told 10 refl) st.quota;
+      index = each 1 _ refl st.index;
+      bitmap = each 2 _ refl st.bitmap;
+      quota = each 10 _ refl st.quota;
     }
+
+pub structures_stay : (g : Geometry) (bs : List Block) (l : ℕ) (b : Block) → 1 ≢ l → g.bitmap_lbn ≢ l → ((n : ℕ) → is_structure n ≡ true → told_of g (slice_set bs l b) n ≡ told_of g bs n) → HasStructures g bs → HasStructures g (slice_set bs l b)
+structures_stay g bs l b home control told st = structures_set g bs l b home control (λ n r is s. structure_stays g bs (slice_set bs l b) n r (told n is) s) st
 
 -- ---- header slots
 

@@ -26,7 +26,7 @@ use Rattle.vol_spell.specs.Spelling.{IsHead, AreWhole, size_in, Tells, dir_found
 use Rattle.vol_spell.specs.Spread.{blocks_at, spread}
 use Rattle.vol_spell.proofs.HeadFiles.{head_whole, number_is, sized, counted, places_are, few, body_shown, dir_read, not_structure, file_is}
 use Rattle.vol_spell.proofs.HeadSame.{IsHeadSame, with_head, head_same}
-use Rattle.vol_spell.proofs.HeadSlots.{reads_fields, alone_told, listed_enough}
+use Rattle.vol_spell.proofs.HeadSlots.{no_parts, reads_fields, alone_told, listed_enough}
 use Rattle.vol_spell.proofs.Heads.{first_reads, first_segment, reads_first}
 use Rattle.vol_spell.proofs.HeadRuns.{marked_runs, mark_runs, end_runs}
 use Rattle.vol_spell.proofs.HeadTold.{IsHeadWith}
@@ -159,7 +159,7 @@ module _ (g : Geometry) (node n : ℕ) (h : Hdr) (f : File) (x : Cat) (bs : List
       owned = subst (IsFileMove node n) (sym ((in_use g bs own x spelt n is.number).0 (ap is_some (reads_fields (header_block g bs n) h is.reads)))) refl;
       head = subst (IsHead n) (sym (first_reads b' h' same.reads)) number;
       alike = λ ne. absurd (ne refl);
-      plain = not_structure n is.above;
+      parts = no_parts n (not_structure n is.above);
       moves = (moves_compose (IsFileMove node n)).still own;
       tells = subst (λ (z : Told). Tells g own n z (body_blocks bs n z) (slot.Used f')) (sym (head_same g bs n h b' h' on is.reads same)) tells;
       reserved = λ old low at. let above = is.above in absurd (omega arith);

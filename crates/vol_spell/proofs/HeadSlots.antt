@@ -21,7 +21,7 @@ use Rattle.vol_parts.specs.declared.finding.Finding.TheVariants as finding
 use Rattle.vol_parts.specs.Chains.{as_first, cut}
 use Rattle.vol_parts.specs.Fatal.{is_one_header, has_dir_size, found_in}
 use Rattle.vol_parts.specs.Volumes.{fields_in, Told}
-use Rattle.vol_parts.specs.Catalogues.{slot_with, slot_of, files_of, file_of}
+use Rattle.vol_parts.specs.Catalogues.{is_structure, slot_with, slot_of, files_of, file_of}
 use Rattle.vol_spell.specs.Owners.{Owners}
 use Rattle.vol_spell.specs.Reading.{IsFileNumber, volume_of, header_block, head_told, told_of, fields_told, alone, runs_first, runs_told, clusters_told, body_blocks}
 use Rattle.vol_spell.specs.Spelling.{dir_found, size_in, has_one_at_most, Spells}
@@ -33,6 +33,10 @@ use Rattle.vol_spell.proofs.Parts.{told}
 use Rattle.vol_spell.proofs.Runs.{size_of_runs}
 use Rattle.vol_spell.proofs.Told.{told_by, slot_there_of}
 use Rattle.vol_spell.proofs.Viewing.{get_range}
+
+-- a file that holds no parts of the volume has none to keep
+pub no_parts : {A : Type 0} (n : ℕ) → is_structure n ≡ false → is_structure n ≡ true → A
+no_parts n plain e = absurd (let f : true ≡ false = sym e ∙ plain in cc)
 
 pub reads_fields : (b : Block) (h : Hdr) → head_told b ≡ Ok (head.Used h) → fields_told b ≡ Some h
 reads_fields b h e = ap fields_in e

@@ -30,7 +30,7 @@ use Rattle.vol_spell.proofs.Frames.{on_volume}
 use Rattle.vol_spell.proofs.Parts.{low, part_owned, in_use, own_number}
 use Rattle.vol_spell.proofs.Runs.{lbns_spread}
 use Rattle.vol_spell.proofs.Viewing.{alone_set}
-use Rattle.vol_spell.proofs.HeadSlots.{reads_fields}
+use Rattle.vol_spell.proofs.HeadSlots.{reads_fields, no_parts}
 
 -- The block reads as a first header of number n with these fields, and lists all blocks of the file, which are these clusters.
 pub record IsHeadWith (g : Geometry) (n : ℕ) (b : Block) (h : Hdr) (ds : List ℕ) : Type 0 where
@@ -106,7 +106,7 @@ module _ (g : Geometry) (bs : List Block) (own new : Owners) (x : Cat) (node n :
         owned = subst (IsFileMove node n) (sym numbered) refl;
         head = subst (IsHead n) (sym (first_reads b h at.reads)) at.num;
         alike = λ ne. absurd (ne refl);
-        plain = plain;
+        parts = no_parts n plain;
         moves = with.moves;
         tells = subst (λ (z : Told). Tells g new n z (body_blocks bs n z) (slot.Used f)) (sym (alone_set g bs n b h len at.reads at.enough)) tells;
         reserved = with.reserved;

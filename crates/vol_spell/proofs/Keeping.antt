@@ -1,7 +1,8 @@
 -- The kinds of writes.
-use Rattle.std.proofs.Common.{◌≡◌, ◌≢◌, ◌<◌, ◌+◌, ◌*◌, ◌-◌, ◌/◌, ℕ, zero, suc, Bool, true, false, List, [], ◌∷◌, Option, Some, length, map, slice_get, slice_set, refl, sym, ap, subst, ◌∙◌, inl, inr, arith, length-set, cond}
+use Rattle.std.proofs.Common.{◌≡◌, ◌≢◌, ◌<◌, ◌+◌, ◌*◌, ◌-◌, ◌/◌, ◌⊎◌, ℕ, zero, suc, Bool, true, false, List, [], ◌∷◌, Option, Some, length, map, slice_get, slice_set, refl, sym, ap, subst, ◌∙◌, inl, inr, arith, length-set, cond}
 use Rattle.std.specs.Prelude.{◌↔◌, ◌==◌, count_by, Result, Ok, Err}
 use Rattle.base_words.specs.Fields.{Block, IsWholeBlock, AreWholeBlocks}
+use Rattle.fx_header.specs.declared.run.Run.{Run}
 use Rattle.fx_header.specs.declared.slot.Slot.{Slot as Head}
 use Rattle.fx_header.specs.declared.slot.Slot.TheVariants as head
 use Rattle.fx_header.specs.declared.slot.HeaderFault.{HeaderFault}
@@ -26,12 +27,12 @@ use Rattle.vol_parts.specs.Parts.{part_of}
 use Rattle.vol_parts.specs.Volumes.{Told}
 use Rattle.vol_parts.specs.Catalogues.{is_structure, slot_with, rows_sorted}
 use Rattle.vol_spell.specs.Reading.{IsFileNumber, total_of, owner_at, header_place, header_block, head_told, told_of, body_places, body_blocks, cluster_bit, number_bit, rows_told}
-use Rattle.vol_spell.specs.Spelling.{IsHead, IsBlank, Tells, Spells}
+use Rattle.vol_spell.specs.Spelling.{IsHead, IsBlank, Tells, IsStructure, Spells}
 use Rattle.vol_spell.specs.Kinds.{OutsideWrite, QuotaWrite, with_rows, StorageWrite, IndexWrite, IsHeaderFor, HeaderWrite, IsSlotFor, SlotWrite, IsBodyFor, BodyWrite, with_leaks, DeathLeaks}
 use Rattle.vol_spell.proofs.Runs.{has_cluster}
 use Rattle.vol_spell.proofs.Heads.{none_told, told_stays}
 use Rattle.vol_spell.proofs.Parts.{differ, low, told, slot_number, part_owned, part_owner, part_only}
-use Rattle.vol_spell.proofs.Frames.{file_kept, file_stays, tells_on, structures_stay, slots_stay, slots_set, on_volume, body_owned, body_once, cluster_bits_stay, rows_stay, header_apart, heads_apart, told_apart, slots_apart, index_apart, home_apart, control_apart, structure_number, away_by, number_bits_stay, set_case, reserved_stays}
+use Rattle.vol_spell.proofs.Frames.{file_kept, file_stays, tells_on, structure_stays, structures_set, structures_stay, slots_stay, slots_set, on_volume, body_owned, body_once, cluster_bits_stay, rows_stay, header_apart, heads_apart, told_apart, slots_apart, index_apart, home_apart, control_apart, structure_number, away_by, number_bits_stay, set_case, reserved_stays}
 use Rattle.vol_spell.proofs.Leaks.{leaks_stay, leak_flags_stay}
 
 -- what one test says, another says that is the same
@@ -243,14 +244,35 @@ module _ (g : Geometry) (bs : List Block) (own : Owners) (c : Cat) (s : Spells g
 
   -- the blocks that a file has by a new header are apart from the header's own place
   pub new_body_away : (new : Owners) (node n m l : ℕ) (b : Block) (x : Slot) → IsHeaderFor g bs node n m own new c b x → owner_at g own l ≡ Some (InFile 1) → Has (body_places n (told_of g (slice_set bs (header_place g m) b) n)) l → ⊥
-  new_body_away new node n m l b x h at t =
-      let now : Told = told_of g (slice_set bs (header_place g m) b) n in
-      let R : Bool → Type 0 = λ k. Has (cond k [] (lbns_in now.runs)) l in
-      let u : Has (lbns_in now.runs) l = subst R h.plain t in
-      let mine : owner_at g new l ≡ Some (InFile n) = (h.tells.runs (l / g.cluster)).0 (has_cluster g now l (low g bs own c s) h.tells.whole u) in
-      let ne : 1 ≢ n = not_structure 1 n refl h.plain in
-      let kept : owner_at g new l ≡ Some (InFile 1) = (owner_stays (IsFileMove node n) own.clusters new.clusters (Some (InFile 1)) h.moves.clusters (λ e. ne e) (l / g.cluster)).1 at in
-      ne (let f : Some (InFile 1) ≡ Some (InFile n) = sym kept ∙ mine in cc)
+  new_body_away new node n m l b x h at t = by_kind (is_structure n) refl where
+    now : Told
+    now = told_of g (slice_set bs (header_place g m) b) n
+
+    R : Bool → Type 0
+    R k = Has (cond k [] (lbns_in now.runs)) l
+
+    by_kind : (k : Bool) → is_structure n ≡ k → ⊥
+    by_kind true e = let none : R true = subst R e t in none
+    by_kind false e =
+        let u : R false = subst R e t in
+        let mine : owner_at g new l ≡ Some (InFile n) = (h.tells.runs (l / g.cluster)).0 (has_cluster g now l (low g bs own c s) h.tells.whole u) in
+        let ne : 1 ≢ n = not_structure 1 n refl e in
+        let kept : owner_at g new l ≡ Some (InFile 1) = (owner_stays (IsFileMove node n) own.clusters new.clusters (Some (InFile 1)) h.moves.clusters (λ f. ne f) (l / g.cluster)).1 at in
+        ne (let f : Some (InFile 1) ≡ Some (InFile n) = sym kept ∙ mine in cc)
+
+  -- each file that holds parts of the volume is as it has to be
+  structure_set : (new : Owners) (node n m : ℕ) (b : Block) (x : Slot) → IsHeaderFor g bs node n m own new c b x → (k : ℕ) (r : Run) → is_structure k ≡ true → IsStructure g bs k r
+      → IsStructure g (slice_set bs (header_place g m) b) k r
+  structure_set new node n m b x h k r st is = by_number (same_or_not k n) where
+    bs' : List Block
+    bs' = slice_set bs (header_place g m) b
+
+    by_number : (k ≡ n) ⊎ (k ≢ n) → IsStructure g (slice_set bs (header_place g m) b) k r
+    by_number (inr ne) = structure_stays g bs bs' k r (others_told new node n m b x h k (structure_number g bs own c s k st) ne) is
+    by_number (inl e) =
+        let kept = h.parts (ap is_structure (sym e) ∙ st) in
+        let was : IsStructure g bs n r = subst (λ (j : ℕ). IsStructure g bs j r) e is in
+        subst (λ (j : ℕ). IsStructure g bs' j r) (sym e) (record { header = kept.header ∙ was.header; run = kept.runs ∙ was.run })
 
   pub header_write_lem : (new : Owners) (node n m : ℕ) (b : Block) (x : Slot) → IsHeaderFor g bs node n m own new c b x → Spells g (slice_set bs (header_place g m) b) new (with_slot c n x)
   header_write_lem new node n m b x h =
@@ -276,8 +298,8 @@ module _ (g : Geometry) (bs : List Block) (own : Owners) (c : Cat) (s : Spells g
           slots = length-set c.files (n - 1) x ∙ s.counts.slots;
         };
         whole = whole_set bs l b s.whole h.whole;
-        structures = structures_stay g bs l b (let ne : 1 ≢ header_place g m = omega arith in ne) (control_apart g bs own c s l (InFile 1) at two)
-            (λ k st. others_told new node n m b x h k (structure_number g bs own c s k st) (not_structure k n st h.plain)) s.structures;
+        structures = structures_set g bs l b (let ne : 1 ≢ header_place g m = omega arith in ne) (control_apart g bs own c s l (InFile 1) at two)
+            (structure_set new node n m b x h) s.structures;
         constants = record {
           factor = s.constants.factor;
           total = s.constants.total;

@@ -14,6 +14,7 @@ pub mod Fully
 pub mod Handing
 pub mod HeadFiles
 pub mod HeadKept
+pub mod HeadOwners
 pub mod HeadRuns
 pub mod HeadSame
 pub mod HeadSlots

@@ -1,14 +1,15 @@
 -- The kinds of writes, and the death of a node. Each takes blocks that spell a catalogue to blocks that spell one, whatever the
 -- whole block that is written, if it reads as the kind says.
-use Rattle.std.specs.Prelude.{◌≡◌, ◌≢◌, ◌≤◌, ◌<◌, ◌-◌, ◌↔◌, ℕ, true, false, List, ◌∷◌, Some, None, Ok, map, count_by, slice_get, slice_set}
+use Rattle.std.specs.Prelude.{◌≡◌, ◌≢◌, ◌≤◌, ◌<◌, ◌-◌, ◌^◌, ◌↔◌, ℕ, true, false, List, ◌∷◌, Some, None, Ok, map, count_by, slice_get, slice_set}
 use Rattle.base_words.specs.Fields.{Block, IsWholeBlock}
 use Rattle.plain_cat.specs.declared.cat.Cat.{Cat}
+use Rattle.plain_cat.specs.declared.cat.File.{File}
 use Rattle.plain_cat.specs.declared.cat.Slot.{Slot}
 use Rattle.plain_cat.specs.declared.cat.Slot.TheVariants as slot
 use Rattle.fx_header.specs.declared.slot.Slot.TheVariants as head
-use Rattle.fx_header.specs.Headers.{header_read}
-use Rattle.plain_rules.specs.Lookups.{clusters_in}
-use Rattle.plain_rules.specs.Changes.{with_slot}
+use Rattle.fx_header.specs.Headers.{header_read, with_owner}
+use Rattle.plain_rules.specs.Lookups.{clusters_in, file_at}
+use Rattle.plain_rules.specs.Changes.{with_slot, with_file}
 use Rattle.vol_spell.specs.declared.owner.Owner.TheVariants.{Free, InFile, Outside, Leaked}
 use Rattle.base_words.specs.Lists.{Has, Once}
 use Rattle.vol_spell.specs.Owners.{Owners, Moves, OwnersMove, IsFileMove, IsSpaceMove, IsDeathMove}
@@ -16,6 +17,7 @@ use Rattle.vol_spell.specs.Counts.{is_same_owner}
 use Rattle.vol_parts.specs.declared.geometry.Geometry.{Geometry}
 use Rattle.vol_parts.specs.declared.geometry.Part.TheVariants.{IndexBitmap, Storage, Quota}
 use Rattle.vol_parts.specs.Parts.{part_of}
+use Rattle.vol_parts.specs.Fatal.{is_system_header}
 use Rattle.vol_parts.specs.Volumes.{fields_in}
 use Rattle.vol_parts.specs.Catalogues.{is_structure, slot_with, rows_sorted}
 use Rattle.vol_spell.specs.Reading.{IsFileNumber, total_of, owner_at, header_place, header_block, head_told, told_of, body_places, body_blocks, cluster_bit, number_bit, rows_told}
@@ -49,10 +51,15 @@ IndexWrite = (g : Geometry) (bs : List Block) (own new : Owners) (c : Cat) (node
     → ((n : ℕ) → IsFileNumber g n → slice_get own.numbers (n - 1) ≢ Some Free → slice_get new.numbers (n - 1) ≡ Some Free → IsBlank (header_block g bs n))
     → Spells g (slice_set bs l b) new c
 
+-- A file that holds parts of the volume keeps its runs, and its first header is as good for such a file as it was.
+pub record KeepsParts (g : Geometry) (bs bs' : List Block) (n : ℕ) : Type 0 where
+  pub header : is_system_header n (fields_in (told_of g bs' n).head) ≡ is_system_header n (fields_in (told_of g bs n).head)
+  pub runs : (told_of g bs' n).runs ≡ (told_of g bs n).runs
+
 -- The block b in header slot m of file n, that of its own number or another, by a node: what the file gets was outside at the
 -- node, and what it loses goes there. The number m is the file's or outside at the node, and it stays its header's; what is told of
--- m where it is not n stays. With the block and the blocks that are named then the file tells the slot s, where a file that is
--- counted as reserved keeps its number of clusters.
+-- m where it is not n stays. With the block and the blocks that are named then the file tells the slot s, where a file that holds
+-- parts of the volume keeps them, and one that is counted as reserved keeps its number of clusters.
 pub record IsHeaderFor (g : Geometry) (bs : List Block) (node n m : ℕ) (own new : Owners) (c : Cat) (b : Block) (s : Slot) : Type 0 where
   pub whole : IsWholeBlock b
   pub number : IsFileNumber g n
@@ -60,7 +67,7 @@ pub record IsHeaderFor (g : Geometry) (bs : List Block) (node n m : ℕ) (own ne
   pub owned : IsFileMove node n (slice_get own.numbers (m - 1))
   pub head : IsHead m (header_read b)
   pub alike : m ≢ n → told_of g (slice_set bs (header_place g m) b) m ≡ told_of g bs m
-  pub plain : is_structure n ≡ false
+  pub parts : is_structure n ≡ true → KeepsParts g bs (slice_set bs (header_place g m) b) n
   pub moves : OwnersMove (IsFileMove node n) own new
   pub tells : let t = told_of g (slice_set bs (header_place g m) b) n in Tells g new n t (body_blocks bs n t) s
   pub reserved : (old : Slot) → n ≤ 11 → slice_get c.files (n - 1) ≡ Some old → clusters_in s ≡ clusters_in old
@@ -69,6 +76,15 @@ pub record IsHeaderFor (g : Geometry) (bs : List Block) (node n m : ℕ) (own ne
 abbrev pub HeaderWrite : Type 0
 HeaderWrite = (g : Geometry) (bs : List Block) (own new : Owners) (c : Cat) (node n m : ℕ) (b : Block) (s : Slot) → Spells g bs own c → IsHeaderFor g bs node n m own new c b s
     → Spells g (slice_set bs (header_place g m) b) new (with_slot c n s)
+
+-- the file with another owner
+abbrev pub owned_by : File → ℕ → File
+owned_by f owner = record f { owner = record { 0 = owner } }
+
+-- another owner in the first header of a file, whichever it is: the catalogue's file has this owner
+abbrev pub OwnerSpelt : Type 0
+OwnerSpelt = (g : Geometry) (bs : List Block) (own : Owners) (c : Cat) (n owner : ℕ) (f : File) → Spells g bs own c → IsFileNumber g n → file_at c n ≡ Some f → owner < 2 ^ 32
+    → Spells g (slice_set bs (header_place g n) (with_owner (header_block g bs n) owner)) own (with_file c n (owned_by f owner))
 
 -- The block b in header slot m, which is no file's: it is the header of this number, tells no file, and has the sequence that the
 -- catalogue has. Where the number is free, the slot stays free.

@@ -112,8 +112,8 @@ pub fn index_write()
     ensures { IndexWrite }
 {}
 
-/// A write to a header changes one slot, and may move clusters and the number between the file and the node that writes. The file
-/// is none of 1, 2 and 10, and up to 11 it keeps its number of clusters.
+/// A write to a header changes one slot, and may move clusters and the number between the file and the node that writes. The files
+/// 1, 2 and 10 keep their runs and what makes them system files, and all up to 11 their number of clusters.
 pub fn header_write()
     ensures { HeaderWrite }
 {}

@@ -17,7 +17,7 @@
 //! `handing_counts`, which counts them.
 //! `write_laws`: the writes that commands and mending share: a quota row changes, or is one more (`row_spelt`, `new_row_spelt`); the
 //! writes of a directory leave the catalogue as it is, up to the one that decides (`moves_spelt`); an insertion and a removal are such
-//! writes (`entry_enters`, `entry_leaves`).
+//! writes (`entry_enters`, `entry_leaves`); a file gets another owner (`owner_spelt`).
 //!
 //! The drive under way (`vol_under`), mending (`vol_mends`) and the operations use them.
 #![tactic(auto)]

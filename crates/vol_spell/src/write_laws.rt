@@ -1,5 +1,6 @@
 //! The laws, each a statement for every value that it speaks of.
 
+ghost use Rattle.vol_spell.specs.Kinds.{OwnerSpelt};
 ghost use Rattle.vol_spell.specs.Rows.{RowsInRange, RowsSpelt, RowSpelt, NewRowSpelt};
 ghost use Rattle.vol_spell.specs.Entries.{MovesSpelt, MovesLeave, EntryEnters, EntryLeaves};
 
@@ -43,4 +44,10 @@ pub fn entry_enters()
 /// The moves of a removal lead to the entries without the one, and the first of them behind those that pack the entries decides.
 pub fn entry_leaves()
     ensures { EntryLeaves }
+{}
+
+/// Another owner in a file's first header changes the file's owner in the catalogue, and nothing else. The file may be any, 1, 2 and
+/// 10 among them, and the owner any of 32 bits.
+pub fn owner_spelt()
+    ensures { OwnerSpelt }
 {}

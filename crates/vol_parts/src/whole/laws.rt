@@ -1,6 +1,6 @@
 //! The laws, each a statement for every value that it speaks of.
 
-ghost use Rattle.vol_parts.specs.Laws.{WholeZeros, WholePut, WholeField, WholeSummed, WholeRow, WholeCleared, WholeBits, WholeHeader, WholeRuns, WholeMap, WholeBlocks, WholeLink, WholeMark, WholeEnd, WholeMarked, WholeScattered, WholeFreed, WholeEntries, WholeInsertion, WholeRemoval};
+ghost use Rattle.vol_parts.specs.Laws.{WholeZeros, WholePut, WholeField, WholeSummed, WholeRow, WholeCleared, WholeBits, WholeHeader, WholeRuns, WholeMap, WholeBlocks, WholeLink, WholeMark, WholeOwner, WholeEnd, WholeMarked, WholeScattered, WholeFreed, WholeEntries, WholeInsertion, WholeRemoval};
 
 /// A block of zeros is whole, and a write within a whole block keeps it whole.
 pub fn fields_are_whole()
@@ -29,6 +29,7 @@ pub fn headers_are_whole()
     ensures blocks { WholeBlocks }
     ensures link { WholeLink }
     ensures mark { WholeMark }
+    ensures owner { WholeOwner }
     ensures end { WholeEnd }
     ensures marked { WholeMarked }
     ensures scattered { WholeScattered }

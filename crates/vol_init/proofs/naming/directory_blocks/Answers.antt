@@ -3,7 +3,10 @@ use Rattle.std.proofs.lemmas.Option.{same_Some}
 use Rattle.fx_dir.specs.Directory.{all_entries}
 use Rattle.fx_dir.specs.Writing.{packed}
 use Rattle.vol_init.proofs.EntryLemmas.{given-packed, packed-listed}
-use Rattle.vol_init.proofs.plan.directory_blocks.Goals as goal
+use Rattle.vol_init.proofs.naming.directory_blocks.Goals as goal
+
+pub returns-clause-written : goal.returns-clause-written
+returns-clause-written c = rw c.in-Some.is at c.in_ok-blocks.ensures.packing
 
 pub returns-clause-listed : goal.returns-clause-listed
 returns-clause-listed c =
