@@ -130,8 +130,8 @@ def layers():
 
 
 def statuses():
-    p = Picture("statuses", 1188, 470, "Which status leads to which step")
-    p.box(494, 10, 200, 40, ["the status"], "plain")
+    p = Picture("statuses", 1356, 470, "Which status leads to which step")
+    p.box(578, 10, 200, 40, ["the status"], "plain")
     rows = [
         ("0", "done", ["nothing; if a line", "says died: rebuild"], "cool"),
         ("1, 2, 3, 9", "words or script", ["mend them,", "and call again"], "box"),
@@ -140,10 +140,11 @@ def statuses():
         ("6", "output or sync", ["do not run it again;", "copy, then look"], "warm"),
         ("7", "memory", ["give it more"], "box"),
         ("10, 11", "file or records", ["another file or text;", "nothing was written"], "box"),
+        ("12", "beyond repair", ["restore a copy", "from before"], "warm"),
     ]
     for i, (code, what, does, kind) in enumerate(rows):
         x = 15 + 168 * i
-        p.arrow([(594, 50), (x + 75, 92)])
+        p.arrow([(678, 50), (x + 75, 92)])
         p.box(x, 94, 150, 46, [code, what], "plain")
         p.arrow([(x + 75, 140), (x + 75, 168)])
         p.box(x, 170, 150, 60, [], kind)
@@ -158,7 +159,7 @@ def statuses():
     p.text(830, 308, "if a job had begun", "small")
     p.arrow([(395, 340), (395, 378)])
     p.box(260, 380, 270, 56, ["look with LIST and STAT", "which commands were done"], "box")
-    p.box(600, 380, 270, 56, ["restore a copy from before", "fatal, or no room in [SYSLOST]"], "warm")
+    p.box(600, 380, 270, 56, ["repair a copy, or restore one", "no room in [SYSLOST]: restore one"], "warm")
     p.arrow([(620, 230), (710, 378)])
     p.text(686, 274, "fatal", "small", "start")
     p.arrow([(490, 340), (610, 390)])

@@ -2,10 +2,11 @@
 use Rattle.std.proofs.Common.{◌≡◌, ℕ, false, List, Option, Some, None, refl, inl}
 use Rattle.base_words.specs.Fields.{Block}
 use Rattle.run_engine.specs.declared.status.Status.TheVariants as status
-use Rattle.clus_top.specs.Words.{Wanted, Run, RunRebuild, Soak, Analyze, Rebuild, Records, Store, Init}
+use Rattle.clus_top.specs.Words.{Wanted, Run, RunRebuild, Soak, Analyze, Rebuild, Repair, Records, Store, Init}
 use Rattle.clus_top.specs.Images.{IsImageAfter}
 use Rattle.clus_top.specs.Statuses.{IsDue}
 use Rattle.clus_top.specs.Verdicts.{is_answer_of}
+use Rattle.clus_top.proofs.Repairing.{still_same}
 
 pub lacking_due : (wanted : Option Wanted) (bytes : List ℕ) (size : ℕ) (bs : List Block) → IsDue wanted bytes size bs status.NoMemory
 lacking_due None bytes size bs = tt
@@ -14,6 +15,7 @@ lacking_due (Some RunRebuild) bytes size bs = tt
 lacking_due (Some (Soak n)) bytes size bs = tt
 lacking_due (Some Analyze) bytes size bs = tt
 lacking_due (Some Rebuild) bytes size bs = tt
+lacking_due (Some Repair) bytes size bs = tt
 lacking_due (Some (Records n seq)) bytes size bs = tt
 lacking_due (Some (Store n seq)) bytes size bs = tt
 lacking_due (Some (Init cluster files label)) bytes size bs = tt
@@ -25,6 +27,7 @@ lacking_image (Some RunRebuild) bytes bs = inl refl
 lacking_image (Some (Soak n)) bytes bs = inl refl
 lacking_image (Some Analyze) bytes bs = refl
 lacking_image (Some Rebuild) bytes bs = record { mends = λ z h. h; kept = λ f h. refl }
+lacking_image (Some Repair) bytes bs = still_same bs
 lacking_image (Some (Records n seq)) bytes bs = refl
 lacking_image (Some (Store n seq)) bytes bs = refl
 lacking_image (Some (Init cluster files label)) bytes bs = inl refl
@@ -37,6 +40,7 @@ no_verdict (Some RunRebuild) = refl
 no_verdict (Some (Soak n)) = refl
 no_verdict (Some Analyze) = refl
 no_verdict (Some Rebuild) = refl
+no_verdict (Some Repair) = refl
 no_verdict (Some (Records n seq)) = refl
 no_verdict (Some (Store n seq)) = refl
 no_verdict (Some (Init cluster files label)) = refl

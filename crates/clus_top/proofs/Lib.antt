@@ -13,6 +13,8 @@ pub mod OneVerdict
 pub mod Pushed
 pub mod RecordsRead
 pub mod RecordsVerdict
+pub mod RepairVerdict
+pub mod Repairing
 pub mod Reported
 pub mod Stopping
 pub mod StoreVerdict

@@ -20,12 +20,15 @@ use Rattle.run_engine.specs.Texts.{IsWordsDue, IsGood, IsAccepted}
 use Rattle.run_engine.proofs.Verdicts.{OneList, unfound, same_first, alone_good, words_alone, run_verdict}
 use Rattle.run_engine.proofs.Verdicts.{due_alone as run_alone}
 use Rattle.vol_records.specs.Records.{FaultsAreFirst}
-use Rattle.clus_top.specs.Words.{Wanted, Run, RunRebuild, Soak, Analyze, Rebuild, Records, Store, Init}
+use Rattle.vol_sound.specs.BeyondLaws.{FirstIsOne}
+use Rattle.vol_repair.specs.Firsts.{FirstBeyondIsThere}
+use Rattle.clus_top.specs.Words.{Wanted, Run, RunRebuild, Soak, Analyze, Rebuild, Repair, Records, Store, Init}
 use Rattle.clus_top.specs.Statuses.{IsRunRebuildDue, IsSoakDue, IsAnalysisDue, IsRebuildDue, sized, IsPossible, IsInitDue, IsDue}
 use Rattle.clus_top.specs.MendedRuns.{IsMendableThen, IsUnmendable}
 use Rattle.clus_top.specs.Verdicts.{HasOneVerdict, is_answer_of, RunsGood}
 use Rattle.clus_top.proofs.Endings.{mendable_once, unmendable_once, comes_to_end, ends_somehow}
 use Rattle.clus_top.proofs.RecordsVerdict.{of_records, alone_records}
+use Rattle.clus_top.proofs.RepairVerdict.{RoomIsTold, of_repair, alone_repair}
 use Rattle.clus_top.proofs.StoreVerdict.{of_store, alone_store}
 
 -- all blocks have one list of findings
@@ -318,17 +321,18 @@ of_rebuild bytes size bs fs list found =
       | inl inside ↦ of_blocks bytes size bs fs list inside found
     ]
 
-pub one_verdict : (wanted : Option Wanted) (bytes : List ℕ) (size : ℕ) (bs : List Block) → SayOneThing (lines_of bytes) → OneLists → AllHaveFindings → FaultsAreFirst → length bs ≡ size → AreWholeBlocks bs
+pub one_verdict : (wanted : Option Wanted) (bytes : List ℕ) (size : ℕ) (bs : List Block) → SayOneThing (lines_of bytes) → OneLists → AllHaveFindings → FaultsAreFirst → FirstBeyondIsThere → FirstIsOne → RoomIsTold → length bs ≡ size → AreWholeBlocks bs
     → HasOneVerdict wanted bytes size bs
-one_verdict None bytes size bs one lists found faults count whole = record { status = status.BadWords; verdict = refl; due = tt; alone = words_alone }
-one_verdict (Some Run) bytes size bs one lists found faults count whole = let there = found bs in of_run bytes size bs there.findings one (lists bs) there.are
-one_verdict (Some RunRebuild) bytes size bs one lists found faults count whole = of_run_rebuild bytes size bs one lists found count whole
-one_verdict (Some (Soak n)) bytes size bs one lists found faults count whole = let there = found bs in of_soak n bytes size bs there.findings (lists bs) there.are
-one_verdict (Some Analyze) bytes size bs one lists found faults count whole = let there = found bs in of_analysis bytes size bs there.findings (lists bs) there.are
-one_verdict (Some Rebuild) bytes size bs one lists found faults count whole = let there = found bs in of_rebuild bytes size bs there.findings (lists bs) there.are
-one_verdict (Some (Records n seq)) bytes size bs one lists found faults count whole = let there = found bs in of_records n seq bytes size bs there.findings faults (lists bs) there.are
-one_verdict (Some (Store n seq)) bytes size bs one lists found faults count whole = let there = found bs in of_store n seq bytes size bs there.findings (lists bs) there.are
-one_verdict (Some (Init cluster files label)) bytes size bs one lists found faults count whole = of_init cluster files label bytes size bs
+one_verdict None bytes size bs one lists found faults there_is first room count whole = record { status = status.BadWords; verdict = refl; due = tt; alone = words_alone }
+one_verdict (Some Run) bytes size bs one lists found faults there_is first room count whole = let there = found bs in of_run bytes size bs there.findings one (lists bs) there.are
+one_verdict (Some RunRebuild) bytes size bs one lists found faults there_is first room count whole = of_run_rebuild bytes size bs one lists found count whole
+one_verdict (Some (Soak n)) bytes size bs one lists found faults there_is first room count whole = let there = found bs in of_soak n bytes size bs there.findings (lists bs) there.are
+one_verdict (Some Analyze) bytes size bs one lists found faults there_is first room count whole = let there = found bs in of_analysis bytes size bs there.findings (lists bs) there.are
+one_verdict (Some Rebuild) bytes size bs one lists found faults there_is first room count whole = let there = found bs in of_rebuild bytes size bs there.findings (lists bs) there.are
+one_verdict (Some Repair) bytes size bs one lists found faults there_is first room count whole = let f = there_is bs in of_repair bytes size bs f.0 first room f.1
+one_verdict (Some (Records n seq)) bytes size bs one lists found faults there_is first room count whole = let there = found bs in of_records n seq bytes size bs there.findings faults (lists bs) there.are
+one_verdict (Some (Store n seq)) bytes size bs one lists found faults there_is first room count whole = let there = found bs in of_store n seq bytes size bs there.findings (lists bs) there.are
+one_verdict (Some (Init cluster files label)) bytes size bs one lists found faults there_is first room count whole = of_init cluster files label bytes size bs
 
 -- ---- of a status that is due
 
@@ -374,17 +378,18 @@ alone_words status.NoMemory v d = absurd (false≢true v)
 alone_words s v d = absurd d
 
 -- no other status is due than one that is
-pub due_alone : (wanted : Option Wanted) (bytes : List ℕ) (size : ℕ) (bs : List Block) (s : Status) → SayOneThing (lines_of bytes) → OneLists → is_verdict s ≡ true → IsDue wanted bytes size bs s
+pub due_alone : (wanted : Option Wanted) (bytes : List ℕ) (size : ℕ) (bs : List Block) (s : Status) → SayOneThing (lines_of bytes) → OneLists → FirstIsOne → RoomIsTold → is_verdict s ≡ true → IsDue wanted bytes size bs s
     → (other : Status) → is_verdict other ≡ true → IsDue wanted bytes size bs other → other ≡ s
-due_alone None bytes size bs s one lists v d = alone_words s v d
-due_alone (Some Run) bytes size bs s one lists v d = run_alone bytes size bs s one (lists bs) v d
-due_alone (Some RunRebuild) bytes size bs s one lists v d = alone_run_rebuild bytes size bs s one lists v d
-due_alone (Some (Soak n)) bytes size bs s one lists v d = alone_soak n size bs s (lists bs) v d
-due_alone (Some Analyze) bytes size bs s one lists v d = alone_analysis size bs s (lists bs) v d
-due_alone (Some Rebuild) bytes size bs s one lists v d = alone_rebuild size bs s (lists bs) v d
-due_alone (Some (Records n seq)) bytes size bs s one lists v d = alone_records n seq size bs s (lists bs) v d
-due_alone (Some (Store n seq)) bytes size bs s one lists v d = alone_store n seq bytes size bs s (lists bs) v d
-due_alone (Some (Init cluster files label)) bytes size bs s one lists v d = alone_init cluster files label size s v d
+due_alone None bytes size bs s one lists first room v d = alone_words s v d
+due_alone (Some Run) bytes size bs s one lists first room v d = run_alone bytes size bs s one (lists bs) v d
+due_alone (Some RunRebuild) bytes size bs s one lists first room v d = alone_run_rebuild bytes size bs s one lists v d
+due_alone (Some (Soak n)) bytes size bs s one lists first room v d = alone_soak n size bs s (lists bs) v d
+due_alone (Some Analyze) bytes size bs s one lists first room v d = alone_analysis size bs s (lists bs) v d
+due_alone (Some Rebuild) bytes size bs s one lists first room v d = alone_rebuild size bs s (lists bs) v d
+due_alone (Some Repair) bytes size bs s one lists first room v d = alone_repair size bs s first room v d
+due_alone (Some (Records n seq)) bytes size bs s one lists first room v d = alone_records n seq size bs s (lists bs) v d
+due_alone (Some (Store n seq)) bytes size bs s one lists first room v d = alone_store n seq bytes size bs s (lists bs) v d
+due_alone (Some (Init cluster files label)) bytes size bs s one lists first room v d = alone_init cluster files label size s v d
 
 -- ---- a good script on an accepted volume
 
@@ -404,6 +409,7 @@ answered (Some RunRebuild) bytes size bs s one list good inside none v h = good_
 answered (Some (Soak n)) bytes size bs s one list good inside none v h = soak_good n size bs list inside none s v h
 answered (Some Analyze) bytes size bs s one list good inside none v h = absurd good
 answered (Some Rebuild) bytes size bs s one list good inside none v h = absurd good
+answered (Some Repair) bytes size bs s one list good inside none v h = absurd good
 answered (Some (Records n seq)) bytes size bs s one list good inside none v h = absurd good
 answered (Some (Store n seq)) bytes size bs s one list good inside none v h = absurd good
 answered (Some (Init cluster files label)) bytes size bs s one list good inside none v h = absurd good

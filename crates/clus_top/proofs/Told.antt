@@ -20,8 +20,10 @@ use Rattle.run_engine.specs.Scripts.{IsScriptOf}
 use Rattle.clus_top.specs.MendedRuns.{IsMendableThen}
 use Rattle.run_engine.specs.Texts.{status_text, IsPlainText, Writes}
 use Rattle.run_engine.specs.Verdicts.{is_verdict}
-use Rattle.clus_top.specs.Words.{Wanted, Run, RunRebuild, Soak, Analyze, Rebuild, Records, Store, Init}
+use Rattle.clus_top.specs.Words.{Wanted, Run, RunRebuild, Soak, Analyze, Rebuild, Repair, Records, Store, Init}
 use Rattle.clus_top.specs.Calls.{IsAnswer, IsCall}
+use Rattle.clus_top.specs.Repairs.{IsStillToRepair, IsRepairedWith, IsRepairEnd}
+use Rattle.clus_top.proofs.Repairing.{still_same}
 use Rattle.clus_top.specs.Ends.{IsReported, IsSummarized, IsRunEnd, IsRunStop, IsSoakEnd, IsSoakStop, IsFoundEnd, IsLoadEnd, IsInitEnd, IsFormattedWith, IsRebuiltWith, IsRebuildEnd, IsRecordsOn, IsRecordsEnd}
 use Rattle.clus_top.specs.Halts.{IsMendedWith, IsRunHalt}
 use Rattle.clus_top.specs.Images.{IsFaultTextOf, IsImageAfter, IsFormatted, IsCutShort, IsMendingCutShort}
@@ -150,6 +152,19 @@ quiet_rebuild bytes size old new read reading had has (status.NotMendable f) h =
     verdict (Some Rebuild) bytes size old new read reading had has (status.NotMendable f) refl h.0 (λ was now before after w. (status_text (status.NotMendable f), refl, w)) h.1 (unmended_stays old new h.1)
 quiet_rebuild bytes size old new read reading had has status.NoMemory h = no_memory (Some Rebuild) bytes size old new read reading had has h
 quiet_rebuild bytes size old new read reading had has s h = absurd h
+
+repair_stays : (old new : List Block) → new ≡ old → IsStillToRepair old new
+repair_stays old new e = subst (IsStillToRepair old) (sym e) (still_same old)
+
+quiet_repair : (bytes : List ℕ) (size : ℕ) (old new : List Block) (read reading had has : ℕ) (s : Status) → IsRepairEnd size old new had has s → IsQuiet (Some Repair) bytes size old new read reading had has s
+quiet_repair bytes size old new read reading had has status.ImageFault h = image_fault (Some Repair) bytes size old new read reading had has h.0 tt refl h.1 h.1
+quiet_repair bytes size old new read reading had has (status.BadSize n) h = verdict (Some Repair) bytes size old new read reading had has (status.BadSize n) refl h.0 (λ was now before after w. w) h.1 (repair_stays old new h.1)
+quiet_repair bytes size old new read reading had has (status.NotRepairable f) h =
+    verdict (Some Repair) bytes size old new read reading had has (status.NotRepairable f) refl h.0 (λ was now before after w. w) h.1 (repair_stays old new h.1)
+quiet_repair bytes size old new read reading had has (status.RepairNoRoom f) h =
+    verdict (Some Repair) bytes size old new read reading had has (status.RepairNoRoom f) refl h.0 (λ was now before after w. w) (h.1, h.2.keeps) h.2
+quiet_repair bytes size old new read reading had has status.NoMemory h = no_memory (Some Repair) bytes size old new read reading had has h
+quiet_repair bytes size old new read reading had has s h = absurd h
 
 quiet_records : (n seq : ℕ) (bytes : List ℕ) (size : ℕ) (bs : List Block) (read reading had has : ℕ) (s : Status) → IsRecordsEnd n seq size bs had has s → IsQuiet (Some (Records n seq)) bytes size bs bs read reading had has s
 quiet_records n seq bytes size bs read reading had has status.ImageFault h = image_fault (Some (Records n seq)) bytes size bs bs read reading had has h tt refl refl refl
@@ -333,6 +348,9 @@ module _ (size : ℕ) (was now : Option (List ℕ)) (read reading had has before
     pub rebuild_told : (bytes : List ℕ) (old new : List Block) → IsRebuildEnd size old new had has s → IsAnswer (Some Rebuild) bytes size old new was now read reading had has before after r
     rebuild_told bytes old new h = told (Some Rebuild) bytes size old new was now read reading had has before after s r (quiet_rebuild bytes size old new read reading had has s h) either w
 
+    pub repair_told : (bytes : List ℕ) (old new : List Block) → IsRepairEnd size old new had has s → IsAnswer (Some Repair) bytes size old new was now read reading had has before after r
+    repair_told bytes old new h = told (Some Repair) bytes size old new was now read reading had has before after s r (quiet_repair bytes size old new read reading had has s h) either w
+
     records_told_of : (n seq : ℕ) (bytes : List ℕ) (bs : List Block) → IsRecordsEnd n seq size bs had has s → IsAnswer (Some (Records n seq)) bytes size bs bs was now read reading had has before after r
     records_told_of n seq bytes bs h = told (Some (Records n seq)) bytes size bs bs was now read reading had has before after s r (quiet_records n seq bytes size bs read reading had has s h) either w
 
@@ -387,6 +405,9 @@ module _ (size : ℕ) (was now : Option (List ℕ)) (read reading had has before
     store_ok n seq bytes old new h =
         let due : IsDue (Some (Store n seq)) bytes size old status.Ok = (h.storable, h.kept.taken) in
         ok_is (Some (Store n seq)) bytes size old new was now read reading had has before after text r due due h.kept.told h.kept.stored h.kept.stored either all cut fault
+
+    pub repair_ok : (bytes : List ℕ) (old new : List Block) → IsRepairedWith size old new text → IsAnswer (Some Repair) bytes size old new was now read reading had has before after r
+    repair_ok bytes old new h = ok_is (Some Repair) bytes size old new was now read reading had has before after text r h.repairable h.repairable h.told h.told.image h.told.image either all cut fault
 
     pub rebuild_ok : (bytes : List ℕ) (old new : List Block) → IsRebuiltWith size old new text → IsAnswer (Some Rebuild) bytes size old new was now read reading had has before after r
     rebuild_ok bytes old new h = ok_is (Some Rebuild) bytes size old new was now read reading had has before after text r h.mendable h.mendable h.told h.told.mended h.told.mended either all cut fault

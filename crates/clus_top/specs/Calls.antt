@@ -31,6 +31,8 @@ pub record IsAnswer (wanted : Option Wanted) (bytes : List ℕ) (size : ℕ) (ol
   -- leaves the drive as far as it came; where a write failed its block is the old one or the new one. A mending leaves an accepted
   -- volume, which tells the mended catalogue; after a fault or want of memory the blocks mend to the same as the old ones, and where
   -- these have a fatal finding they are the old ones. A run that is mended then leaves what a mending leaves of the drive of its nodes.
+  -- A repair leaves an accepted volume too, which tells the catalogue to which the patched one is mended; where a lost file has no room
+  -- the blocks spell the patched one; after a fault or want of memory they keep every sound file.
   -- A store leaves what its writes make of the old blocks, an accepted volume with the lines in the file; after a fault of the image there
   -- are the old blocks, or what the first of these writes make of them, which tells the old catalogue or that with the lines in the file.
   -- A format leaves a new volume; after a fault or want of memory there are the old blocks, or no home block that is read, or the new

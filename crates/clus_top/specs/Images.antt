@@ -13,11 +13,12 @@ use Rattle.core_state.specs.Ends.{AllOver}
 use Rattle.run_engine.specs.Scripts.{IsScriptOf}
 use Rattle.run_engine.specs.Texts.{status_text, cut_text, unmended_text, IsPlainText}
 use Rattle.run_engine.specs.Torn.{IsTornRun}
-use Rattle.clus_top.specs.Words.{Wanted, Run, RunRebuild, Soak, Analyze, Rebuild, Records, Store, Init}
+use Rattle.clus_top.specs.Words.{Wanted, Run, RunRebuild, Soak, Analyze, Rebuild, Repair, Records, Store, Init}
 use Rattle.clus_top.specs.Runs.{IsSoakOf, HasRun, LacksMemory}
 use Rattle.vol_parts.specs.declared.finding.Finding.{Finding}
 use Rattle.clus_top.specs.Mendings.{IsMendedImage, IsStillToMend}
 use Rattle.clus_top.specs.MendedRuns.{HasRunAndMended, IsPartlyMended, IsUnmended}
+use Rattle.clus_top.specs.Repairs.{IsRepairImage}
 use Rattle.clus_top.specs.Stores.{IsStoreImage}
 use Rattle.run_script.specs.Lines.{lines_of}
 
@@ -123,12 +124,13 @@ IsFaultTextOf (Some RunRebuild) bytes old new s text = IsMendedFaultText (IsScri
 IsFaultTextOf (Some (Soak n)) bytes old new s text = IsRunFaultText (IsSoakOf n) old new s text
 IsFaultTextOf (Some Analyze) bytes old new s text = IsPlainText s text
 IsFaultTextOf (Some Rebuild) bytes old new s text = IsPlainText s text
+IsFaultTextOf (Some Repair) bytes old new s text = IsPlainText s text
 IsFaultTextOf (Some (Records n seq)) bytes old new s text = IsPlainText s text
 IsFaultTextOf (Some (Store n seq)) bytes old new s text = IsPlainText s text
 IsFaultTextOf (Some (Init cluster files label)) bytes old new s text = IsPlainText s text
 IsFaultTextOf None bytes old new s text = IsPlainText s text
 
--- After a job: a run, a soak, a mending, a store and a format write to the image.
+-- After a job: a run, a soak, a mending, a repair, a store and a format write to the image.
 abbrev pub IsImageAfter : Option Wanted → List ℕ → List Block → List Block → Status → Type 0
 IsImageAfter (Some (Init cluster files label)) bytes old new s = IsFormatted (home_of cluster files label) old new s
 IsImageAfter (Some Run) bytes old new s = IsRunImage (IsScriptOf bytes) old new s
@@ -136,6 +138,7 @@ IsImageAfter (Some RunRebuild) bytes old new s = IsRunRebuildImage (IsScriptOf b
 IsImageAfter (Some (Soak n)) bytes old new s = IsRunImage (IsSoakOf n) old new s
 IsImageAfter (Some Analyze) bytes old new s = new ≡ old
 IsImageAfter (Some Rebuild) bytes old new s = IsRebuildImage old new s
+IsImageAfter (Some Repair) bytes old new s = IsRepairImage old new s
 IsImageAfter (Some (Records n seq)) bytes old new s = new ≡ old
 IsImageAfter (Some (Store n seq)) bytes old new s = IsStoreImage n seq (lines_of bytes) old new s
 IsImageAfter None bytes old new s = new ≡ old

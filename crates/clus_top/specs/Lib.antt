@@ -5,6 +5,7 @@ pub mod Images
 pub mod MendedRuns
 pub mod Mendings
 pub mod Records
+pub mod Repairs
 pub mod Runs
 pub mod Statuses
 pub mod Stores

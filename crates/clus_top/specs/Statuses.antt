@@ -16,11 +16,12 @@ use Rattle.run_engine.specs.Texts.{IsGood, IsAccepted, IsWordsDue}
 use Rattle.run_engine.specs.Verdicts.{IsRunDue}
 use Rattle.run_script.specs.Lines.{lines_of}
 use Rattle.vol_records.specs.Streams.{stream_at}
-use Rattle.clus_top.specs.Words.{Wanted, Run, RunRebuild, Soak, Analyze, Rebuild, Records, Store, Init}
+use Rattle.clus_top.specs.Words.{Wanted, Run, RunRebuild, Soak, Analyze, Rebuild, Repair, Records, Store, Init}
 use Rattle.clus_top.specs.Runs.{IsReport, IsSummary}
 use Rattle.clus_top.specs.Mendings.{IsMendingText}
 use Rattle.clus_top.specs.MendedRuns.{IsMendedReport, IsMendableThen, IsUnmendable}
 use Rattle.clus_top.specs.Records.{HasRecords, IsRecordsText, HasBadRecord}
+use Rattle.clus_top.specs.Repairs.{IsRepairDue, IsRepairText}
 use Rattle.clus_top.specs.Stores.{IsStoreDue, stored_text}
 use Rattle.run_engine.specs.Summaries.{counted}
 
@@ -115,6 +116,7 @@ IsDue (Some RunRebuild) bytes size bs s = IsRunRebuildDue bytes size bs s
 IsDue (Some (Soak n)) bytes size bs s = IsSoakDue n size bs s
 IsDue (Some Analyze) bytes size bs s = IsAnalysisDue size bs s
 IsDue (Some Rebuild) bytes size bs s = IsRebuildDue size bs s
+IsDue (Some Repair) bytes size bs s = IsRepairDue size bs s
 IsDue (Some (Records n seq)) bytes size bs s = IsRecordsDue n seq size bs s
 IsDue (Some (Store n seq)) bytes size bs s = IsStoreDue n seq bytes size bs s
 IsDue (Some (Init cluster files label)) bytes size bs s = IsInitDue cluster files label size s
@@ -143,6 +145,7 @@ IsTextOf (Some RunRebuild) bytes size old new text = IsMendedReport (IsScriptOf 
 IsTextOf (Some (Soak n)) bytes size old new text = IsSummary n old new text
 IsTextOf (Some Analyze) bytes size old new text = text ≡ accepted_text
 IsTextOf (Some Rebuild) bytes size old new text = IsMendingText old new text
+IsTextOf (Some Repair) bytes size old new text = IsRepairText old new text
 IsTextOf (Some (Records n seq)) bytes size old new text = IsRecordsText n seq old text
 IsTextOf (Some (Store n seq)) bytes size old new text = text ≡ stored_text (lines_of bytes)
 IsTextOf (Some (Init cluster files label)) bytes size old new text = text ≡ made_text label (sized cluster files size)

@@ -5,14 +5,15 @@ use Rattle.std.specs.Str.{bytes_eq}
 use Rattle.clus_top.specs.declared.words.Job.{Job}
 use Rattle.clus_top.specs.declared.words.Job.TheVariants as job
 
--- a job: run the script, run it and mend the volume then, run the soak of this number, print what is found in the volume, mend it, print
--- the records of the file of this number and sequence, store the lines of a text there, or format the image with these blocks in a cluster, these file numbers and this label
+-- a job: run the script, run it and mend the volume then, run the soak of this number, print what is found in the volume, mend it, repair it,
+-- print the records of the file of this number and sequence, store the lines of a text there, or format the image with these blocks in a cluster, these file numbers and this label
 pub data Wanted : Type 0 where
   Run : Wanted
   RunRebuild : Wanted
   Soak : ℕ → Wanted
   Analyze : Wanted
   Rebuild : Wanted
+  Repair : Wanted
   Records : ℕ → ℕ → Wanted
   Store : ℕ → ℕ → Wanted
   Init : ℕ → ℕ → List ℕ → Wanted
@@ -24,6 +25,7 @@ wanted job.RunRebuild = RunRebuild
 wanted (job.Soak n) = Soak n
 wanted job.Analyze = Analyze
 wanted job.Rebuild = Rebuild
+wanted job.Repair = Repair
 wanted (job.Records file seq) = Records file seq
 wanted (job.Store file seq) = Store file seq
 wanted (job.Init cluster files label) = Init cluster files label.now
@@ -56,6 +58,7 @@ named word =
     if bytes_eq word (codes "run") then Some Run
     else if bytes_eq word (codes "analyze") then Some Analyze
     else if bytes_eq word (codes "rebuild") then Some Rebuild
+    else if bytes_eq word (codes "repair") then Some Repair
     else None
 
 -- a soak has a number from 1 to 256

@@ -32,6 +32,7 @@ mod files;
 mod format;
 mod rebuild;
 mod records;
+mod repair;
 mod run_job;
 mod run_rebuild;
 mod store;

@@ -14,6 +14,9 @@ pub fn one_status_is_due()
     vol_analyze::findings_are_one_list();
     vol_analyze::there_are_findings();
     vol_records::faults_are_first();
+    vol_repair::first_beyond_is_there();
+    vol_sound::first_beyond_is_one();
+    vol_faults::room_is_lacking_where_mending_gives_up();
 }
 
 /// If a status is due that is no fault and no want of memory, no other such one is.
@@ -22,6 +25,8 @@ pub fn no_other_status_is_due()
 {
     run_script::a_text_says_one_thing();
     vol_analyze::findings_are_one_list();
+    vol_sound::first_beyond_is_one();
+    vol_faults::room_is_lacking_where_mending_gives_up();
 }
 
 /// A good script that is run on an accepted volume, and a soak on one, ends with status 0, unless a call of an object fails or memory

@@ -7,12 +7,13 @@ ghost use Rattle.run_engine.specs.Texts.{IsPlainText, Writes};
 ghost use Rattle.clus_top.specs.Calls.{IsAnswer, IsCall};
 ghost use Rattle.clus_top.specs.Ends.{IsFoundEnd};
 ghost use Rattle.clus_top.specs.Statuses.{accepted_text};
-ghost use Rattle.clus_top.specs.Words.{Run, RunRebuild, Soak, Analyze, Rebuild as Mending, Records, Store, Init, wanted_by};
+ghost use Rattle.clus_top.specs.Words.{Run, RunRebuild, Soak, Analyze, Rebuild as Mending, Repair as Repairing, Records, Store, Init, wanted_by};
 
 use crate::analysis::{Analysis, analyze_image};
 use crate::format::{Format, init_image};
 use crate::rebuild::{Rebuild, mend_image};
 use crate::records::{Reading, read_records};
+use crate::repair::{Repair, repair_image};
 use crate::run_job::{Ran, run_script, run_soak};
 use crate::run_rebuild::run_and_mend;
 use crate::store::{Stored, store_text};
@@ -143,6 +144,25 @@ fn rebuild<I: ImageDev, O: TextOut>(alloc: Global, image: I, out: &mut O) -> Fin
     }
 }
 
+// The job `repair`.
+fn repair<I: ImageDev, O: TextOut>(alloc: Global, image: I, out: &mut O) -> Finished<I>
+    ensures { (bytes : List ℕ) (faults : ℕ) → OfImage (I.size image) (I.told image) (I.told result.image) (λ old new.
+        IsAnswer (Some Repairing) bytes (I.size image) old new (O.written out.old) (O.written out.new)
+        faults faults (I.faults image) (I.faults result.image) (O.faults out.old) (O.faults out.new) result.status) }
+{
+    let Repair { outcome, image } = repair_image(alloc, image);
+    match outcome {
+        Ok(text) => {
+            let status = tell_text(out, text.as_slice());
+            Finished { status, image }
+        }
+        Err(fault) => {
+            let status = tell(alloc, out, fault);
+            Finished { status, image }
+        }
+    }
+}
+
 // The job `records`. It reads no script.
 fn records<I: ImageDev, O: TextOut>(
     alloc: Global,
@@ -238,6 +258,7 @@ fn done<I: ImageDev, T: TextIn, O: TextOut>(
         Some(Job::Soak(n)) => soak(alloc, image, n, out),
         Some(Job::Analyze) => analyze(alloc, image, out),
         Some(Job::Rebuild) => rebuild(alloc, image, out),
+        Some(Job::Repair) => repair(alloc, image, out),
         Some(Job::Records { file, seq }) => records(alloc, image, file, seq, out),
         Some(Job::Store { file, seq }) => store(alloc, image, file, seq, script, out),
         Some(
@@ -264,7 +285,9 @@ fn done<I: ImageDev, T: TextIn, O: TextOut>(
 /// `soak N`, for N from 1 to 256, does the same with the script that is drawn from N, for 4 nodes and with 16 N commands, and prints one
 /// line: how many of them were carried out and how many refused, how many blocks the nodes read and how many they found in their caches,
 /// and the free clusters. `analyze` prints what is found in a volume. `rebuild` mends a volume that has no fatal finding, and prints what it
-/// did; what it leaves where it is stopped mends to the same. `records N S` prints the variable-length records of the file of number N and
+/// did; what it leaves where it is stopped mends to the same. `repair` makes an accepted volume of one that cannot be mended, if nothing is beyond
+/// repair: it keeps every sound file, frees what is broken or shared, and prints how many header slots it freed and what mending did
+/// then; a repair that is stopped can be made again. `records N S` prints the variable-length records of the file of number N and
 /// sequence S on a volume in which nothing is found, a line for each, and how many there are; it changes nothing. `store N S` reads a text of at
 /// most 1,048,576 bytes and stores its lines, each of at most 32,767 bytes, as variable-length records in the file of number N and sequence
 /// S, in which nothing was written so far, on a volume in which nothing is found. `init CLUSTER FILES LABEL` makes a volume with 1 to 16

@@ -22,6 +22,9 @@ pub enum Job<'a> {
     /// `rebuild`: mend the volume.
     Rebuild,
 
+    /// `repair`: repair the volume, and mend it then.
+    Repair,
+
     /// `records N S`: print the records of a file.
     Records {
         /// The number of the file, 0 to 99,999 as it is written.
@@ -116,6 +119,9 @@ fn named(word: &[u8]) -> Option<Job<'_>>
     }
     if word == b"rebuild".as_slice() {
         return Some(Job::Rebuild);
+    }
+    if word == b"repair".as_slice() {
+        return Some(Job::Repair);
     }
     None
 }

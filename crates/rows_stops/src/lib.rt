@@ -22,6 +22,8 @@ mod headers;
 #[cfg(test)]
 mod rebuilding;
 #[cfg(test)]
+mod repairing;
+#[cfg(test)]
 mod run_rebuilding;
 #[cfg(test)]
 mod scenes;

@@ -25,3 +25,5 @@ status_code (status.LineLong k) = 11
 status_code status.NoPriv = 11
 status_code status.NotEmpty = 11
 status_code status.NoRoom = 11
+status_code (status.NotRepairable f) = 12
+status_code (status.RepairNoRoom f) = 12

@@ -50,6 +50,8 @@ status_text (status.LineLong k) = codes "line " ++ (decimal k ++ codes " too lon
 status_text status.NoPriv = codes "no privilege" ++ newline
 status_text status.NotEmpty = codes "not empty" ++ newline
 status_text status.NoRoom = codes "no room" ++ newline
+status_text (status.NotRepairable f) = codes "not repairable: " ++ (finding_text f ++ newline)
+status_text (status.RepairNoRoom f) = codes "no room: " ++ (finding_text f ++ newline)
 
 -- the text of a run that a write of the image has cut short: the lines of the answers so far, and that of the fault
 abbrev pub cut_text : List Entry → List ℕ

@@ -67,12 +67,18 @@ pub enum Status {
 
     /// The records take more bytes than the blocks of the file have.
     NoRoom,
+
+    /// Something of the volume is beyond repair: this is the first such finding.
+    NotRepairable(Finding),
+
+    /// The volume is repaired, but `[SYSLOST]` has no room for a lost file that is not empty.
+    RepairNoRoom(Finding),
 }
 
 impl Status {
     ghost use Rattle.run_engine.specs.Statuses.{status_code};
 
-    /// The number with which the program ends: 0 to 7, or 9 to 11.
+    /// The number with which the program ends: 0 to 7, or 9 to 12.
     pub fn code(&self) -> u8
         ensures { result ≡ status_code self.now }
     {
@@ -92,6 +98,7 @@ impl Status {
             | Status::NoPriv
             | Status::NotEmpty
             | Status::NoRoom => 11,
+            Status::NotRepairable(_) | Status::RepairNoRoom(_) => 12,
         }
     }
 }

@@ -79,6 +79,28 @@ pub fn not_mendable(alloc: Global, found: &Finding) -> Result<Vec<u8>, NoMemory>
     Ok(text)
 }
 
+// The text of a volume of which something is beyond repair.
+#[tactic(auto, unfolding(crate::specs::Texts::status_text))]
+fn not_repairable(alloc: Global, found: &Finding) -> Result<Vec<u8>, NoMemory>
+    ensures { IfOk result (λ text. text.items ≡ status_text (Status.NotRepairable found.now)) }
+{
+    let mut text = Vec::new(alloc);
+    push_bytes(&mut text, b"not repairable: ")?;
+    push_line(alloc, &mut text, found)?;
+    Ok(text)
+}
+
+// The text of a repaired volume that lacks room for a lost file.
+#[tactic(auto, unfolding(crate::specs::Texts::status_text))]
+fn repair_no_room(alloc: Global, found: &Finding) -> Result<Vec<u8>, NoMemory>
+    ensures { IfOk result (λ text. text.items ≡ status_text (Status.RepairNoRoom found.now)) }
+{
+    let mut text = Vec::new(alloc);
+    push_bytes(&mut text, b"no room: ")?;
+    push_line(alloc, &mut text, found)?;
+    Ok(text)
+}
+
 // Why an image was not formatted.
 #[tactic(auto, unfolding(crate::specs::Texts::init_fault_text, crate::specs::Texts::status_text))]
 fn init_text(fault: InitFault) -> &'static [u8]
@@ -106,6 +128,8 @@ fn status_text(alloc: Global, status: &Status) -> Result<Vec<u8>, NoMemory>
         Status::NotMendable(found) => return not_mendable(alloc, found),
         Status::BadRecord(at) => return bad_record(alloc, *at),
         Status::LineLong(k) => return line_long(alloc, *k),
+        Status::NotRepairable(found) => return not_repairable(alloc, found),
+        Status::RepairNoRoom(found) => return repair_no_room(alloc, found),
         Status::Ok | Status::Findings | Status::OutFault => b"",
         Status::BadWords => b"bad words\n",
         Status::ScriptFault => b"script fault\n",

@@ -42,6 +42,7 @@ use Rattle.plain_rules.specs.SystemFiles.{is_system_directory}
 use Rattle.vol_parts.specs.Findings.{home_at, IsFatalBy, IsFatal, IsCatalogueBy}
 use Rattle.vol_faults.specs.CatFindings.{IsFatalOf}
 use Rattle.vol_spell.specs.Reading.{IsFileNumber, total_of, header_block, told_of, chain_told, clusters_told, body_blocks, rows_told}
+use Rattle.vol_spell.specs.Accepting.{IsBeside}
 use Rattle.vol_spell.specs.Spelling.{IsHomeOf, dir_found, size_in, has_one_at_most, Tells, Spells}
 use Rattle.vol_spell.proofs.Owned.{each_is_owned}
 use Rattle.vol_spell.proofs.Parts.{slot_there, told}
@@ -65,7 +66,7 @@ HasSystems c = (n : ℕ) → 1 ≤ n → n ≤ 11 → (f : File) × (file_at c n
 abbrev pub HasOwners : Cat → Type 0
 HasOwners c = (n : ℕ) (f : File) → file_at c n ≡ Some f → is_some (row_of f.owner c.quota) ≡ true
 
-module _ (label : List ℕ) (g : Geometry) (bs : List Block) (own : Owners) (c : Cat) (s : Spells g bs own c) (outs : NoOuts own) (systems : HasSystems c) (owners : HasOwners c) where
+module _ (label : List ℕ) (g : Geometry) (bs : List Block) (own : Owners) (c : Cat) (s : Spells g bs own c) (outs : NoOuts own) (systems : HasSystems c) where
   abbrev w : Volume
   w = v label g bs own c s
 
@@ -319,8 +320,8 @@ module _ (label : List ℕ) (g : Geometry) (bs : List Block) (own : Owners) (c :
       let same : count_by (λ (r : Row). r.uic == u) (active_rows w) ≡ count_by (λ (r : Row). r.uic == u) (rows_told g bs) = ap (λ rs. count_by (λ (r : Row). r.uic == u) rs) (v_rows label g bs own c s) in
       omega (arith, two, few, same)
 
-  has_row : (n : ℕ) → IsNumber w n → is_rowless (active_rows w) (fields w n) ≡ true → ⊥
-  has_row n k e = by_head (fields_in (told_of g bs n).head) refl (ap (λ rs. is_rowless rs (fields w n)) (sym (v_rows label g bs own c s)) ∙ e) where
+  has_row : HasOwners c → (n : ℕ) → IsNumber w n → is_rowless (active_rows w) (fields w n) ≡ true → ⊥
+  has_row owners n k e = by_head (fields_in (told_of g bs n).head) refl (ap (λ rs. is_rowless rs (fields w n)) (sym (v_rows label g bs own c s)) ∙ e) where
     is : IsFileNumber g n
     is = number n k
 
@@ -359,31 +360,57 @@ module _ (label : List ℕ) (g : Geometry) (bs : List Block) (own : Owners) (c :
   on_cat : (P : Cat → Type 0) → P (catalogue w) → P (shut c)
   on_cat P p = subst P (sym (catalogue_is label g bs own c s outs)) p
 
-  -- a fatal finding is one of the catalogue
-  found : (f : Finding) → IsFatalIn w f → IsFatalOf (shut c) f
-  found (finding.Home fault) e = e
-  found (finding.Header n fault) e = no_header n fault e.0 e.1
-  found (finding.WrongNumber n) e = e.1.2 (right_number n e.1.0 e.0 e.1.1)
-  found (finding.SystemFile n) e = clash (is_system_file w n) (system_file n e.0 e.1) e.2
-  found (finding.Scb fault) e = let both : None ≡ Some fault = sym control ∙ e in cc both
-  found (finding.ChainBroken n) e = no_chain_fault n (finding.ChainBroken n) e.0 e.1 e.2
-  found (finding.ChainSplit n) e = no_chain_fault n (finding.ChainSplit n) e.0 e.1 e.2
-  found (finding.Runs n) e = in_bounds n e.0 e.1
-  found (finding.Clusters n) e = not_large n e.0 e.1 e.2
-  found (finding.SharedCluster q) e = not_shared q e
-  found (finding.DirSize n) e = no_dir_fault n (finding.DirSize n) e.0 e.1
-  found (finding.DirRecord n) e = no_dir_fault n (finding.DirRecord n) e.0 e.1
-  found (finding.DirOrder n) e = no_dir_fault n (finding.DirOrder n) e.0 e.1
-  found (finding.DirClash n) e = no_dir_fault n (finding.DirClash n) e.0 e.1
-  found (finding.QuotaRow o) e = one_row o.0 e
-  found (finding.NoQuotaRow n) e = has_row n e.0 e.1
-  found (finding.FreeCluster q) e = no_free_cluster q e.0 e.1 e.2
-  found (finding.FreeNumber n) e = no_free_number n e.0 e.1 e.2
-  found (finding.SystemEntry n) e = on_cat (λ x. IsFatalOf x (finding.SystemEntry n)) e
-  found (finding.MarkedDir n) e = on_cat (λ x. IsFatalOf x (finding.MarkedDir n)) e.1
-  found (finding.DirLoop n) e = on_cat (λ x. IsFatalOf x (finding.DirLoop n)) e
-  found (finding.NoRoom n) e = on_cat (λ x. IsFatalOf x (finding.NoRoom n)) e
-  found f e = e
+  -- a fatal finding is one on which the spelling of a catalogue does not rest, also where owners lack rows
+  beside : (f : Finding) → IsFatalIn w f → IsBeside f
+  beside (finding.Home fault) e = e
+  beside (finding.Header n fault) e = no_header n fault e.0 e.1
+  beside (finding.WrongNumber n) e = e.1.2 (right_number n e.1.0 e.0 e.1.1)
+  beside (finding.SystemFile n) e = clash (is_system_file w n) (system_file n e.0 e.1) e.2
+  beside (finding.Scb fault) e = let both : None ≡ Some fault = sym control ∙ e in cc both
+  beside (finding.ChainBroken n) e = no_chain_fault n (finding.ChainBroken n) e.0 e.1 e.2
+  beside (finding.ChainSplit n) e = no_chain_fault n (finding.ChainSplit n) e.0 e.1 e.2
+  beside (finding.Runs n) e = in_bounds n e.0 e.1
+  beside (finding.Clusters n) e = not_large n e.0 e.1 e.2
+  beside (finding.SharedCluster q) e = not_shared q e
+  beside (finding.DirSize n) e = no_dir_fault n (finding.DirSize n) e.0 e.1
+  beside (finding.DirRecord n) e = no_dir_fault n (finding.DirRecord n) e.0 e.1
+  beside (finding.DirOrder n) e = no_dir_fault n (finding.DirOrder n) e.0 e.1
+  beside (finding.DirClash n) e = no_dir_fault n (finding.DirClash n) e.0 e.1
+  beside (finding.QuotaRow o) e = one_row o.0 e
+  beside (finding.NoQuotaRow n) e = tt
+  beside (finding.FreeCluster q) e = no_free_cluster q e.0 e.1 e.2
+  beside (finding.FreeNumber n) e = no_free_number n e.0 e.1 e.2
+  beside (finding.SystemEntry n) e = tt
+  beside (finding.MarkedDir n) e = tt
+  beside (finding.DirLoop n) e = tt
+  beside (finding.NoRoom n) e = tt
+  beside f e = e
+
+  -- it is one of the catalogue, where each owner has a row
+  found : HasOwners c → (f : Finding) → IsFatalIn w f → IsFatalOf (shut c) f
+  found owners (finding.Home fault) e = beside (finding.Home fault) e
+  found owners (finding.Header n fault) e = beside (finding.Header n fault) e
+  found owners (finding.WrongNumber n) e = beside (finding.WrongNumber n) e
+  found owners (finding.SystemFile n) e = beside (finding.SystemFile n) e
+  found owners (finding.Scb fault) e = beside (finding.Scb fault) e
+  found owners (finding.ChainBroken n) e = beside (finding.ChainBroken n) e
+  found owners (finding.ChainSplit n) e = beside (finding.ChainSplit n) e
+  found owners (finding.Runs n) e = beside (finding.Runs n) e
+  found owners (finding.Clusters n) e = beside (finding.Clusters n) e
+  found owners (finding.SharedCluster q) e = beside (finding.SharedCluster q) e
+  found owners (finding.DirSize n) e = beside (finding.DirSize n) e
+  found owners (finding.DirRecord n) e = beside (finding.DirRecord n) e
+  found owners (finding.DirOrder n) e = beside (finding.DirOrder n) e
+  found owners (finding.DirClash n) e = beside (finding.DirClash n) e
+  found owners (finding.QuotaRow o) e = beside (finding.QuotaRow o) e
+  found owners (finding.NoQuotaRow n) e = has_row owners n e.0 e.1
+  found owners (finding.FreeCluster q) e = beside (finding.FreeCluster q) e
+  found owners (finding.FreeNumber n) e = beside (finding.FreeNumber n) e
+  found owners (finding.SystemEntry n) e = on_cat (λ x. IsFatalOf x (finding.SystemEntry n)) e
+  found owners (finding.MarkedDir n) e = on_cat (λ x. IsFatalOf x (finding.MarkedDir n)) e.1
+  found owners (finding.DirLoop n) e = on_cat (λ x. IsFatalOf x (finding.DirLoop n)) e
+  found owners (finding.NoRoom n) e = on_cat (λ x. IsFatalOf x (finding.NoRoom n)) e
+  found owners f e = e
 
 -- ---- the home block
 
@@ -407,6 +434,11 @@ spelt_findings g bs own c f s outs systems owners e = by_home (home_read (home_a
   by_home : (r : Result Home HomeFault) → IsHomeOf g r → IsFatalBy bs r f → IsFatalOf (shut c) f
   by_home (Err fault) h k = absurd h
   by_home (Ok home) h k = on_home g home (λ x. IsFatalIn (volume x bs) f → IsFatalOf (shut c) f) h (found home.label g bs own c s outs systems owners f) k
+
+-- also where owners lack rows, the spelling does not rest on any of them
+pub spelt_beside : (g : Geometry) (home : Home) (bs : List Block) (own : Owners) (c : Cat) (f : Finding) → Spells g bs own c → NoOuts own → HasSystems c → home_read (home_at bs) ≡ Ok home → IsFatalIn (volume home bs) f → IsBeside f
+spelt_beside g home bs own c f s outs systems read =
+    on_home g home (λ x. IsFatalIn (volume x bs) f → IsBeside f) (subst (λ (r : Result Home HomeFault). IsHomeOf g r) read s.structures.home) (beside home.label g bs own c s outs systems f)
 
 -- and so is the one that there is no room for a lost file
 pub room_lacks : (g : Geometry) (bs : List Block) (own : Owners) (c : Cat) (n : ℕ) → Spells g bs own c → NoOuts own → HasNoRoom (shut c) n → IsFatal bs (finding.NoRoom n)

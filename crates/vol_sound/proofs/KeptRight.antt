@@ -29,7 +29,8 @@ use Rattle.vol_faults.specs.Conditions.{has_run_off}
 use Rattle.vol_sound.specs.Sound.{is_sound, is_kept}
 use Rattle.vol_sound.specs.Freeing.{HasSystem, IsSameTold}
 use Rattle.vol_sound.specs.Begun.{is_kept_file, most_rows, is_in_kept_file, is_in_kept, is_leaked, is_leaked_number, begun}
-use Rattle.vol_sound.specs.Kept.{IsBegun, IsLeft, IsKeptRight}
+use Rattle.vol_spell.specs.Accepting.{IsBeside}
+use Rattle.vol_sound.specs.Kept.{IsBegun, IsKeptRight}
 use Rattle.vol_sound.proofs.Cuts.{in_range, number_in, number_of, system_header, system_slots, sound_kept, low_kept, kept_parts}
 use Rattle.vol_sound.proofs.Freed.{in_file_same}
 use Rattle.vol_sound.proofs.Settled.{used_kept, no_bad_header, own_numbers, no_bad_chain, no_bad_runs, none_shared, kinds}
@@ -251,7 +252,7 @@ module _ (home : Home) (old new : List Block) (within : IsWithinLimits home) (sy
         let z : true ≡ false = sym (or_right (is_used_number v n) (is_kept v n) kept) ∙ sym (b.numbers n (was n is)) ∙ clear in
         cc
 
-  findings_are : (f : Finding) → IsFatalIn p f → IsLeft f
+  findings_are : (f : Finding) → IsFatalIn p f → IsBeside f
   findings_are (finding.Header n fault) h = absurd (no_bad_header home old new within system b.freed n fault (was n h.0) h.1)
   findings_are (finding.WrongNumber n) h = absurd (h.1.2 (own_numbers home old new within system b.freed n h.1.0 (was n h.0) h.1.1))
   findings_are (finding.SystemFile n) h = absurd (let z : true ≡ false = sym (system_stands n h.0 h.1) ∙ h.2 in cc)

@@ -7,10 +7,10 @@ use Rattle.fx_home.specs.Homes.{IsWithinLimits}
 use Rattle.fx_header.specs.declared.slot.Hdr.{Hdr}
 use Rattle.fx_dir.specs.Directory.{directory}
 use Rattle.vol_parts.specs.declared.finding.Finding.{Finding}
-use Rattle.vol_parts.specs.declared.finding.Finding.TheVariants as finding
 use Rattle.vol_parts.specs.Volumes.{Volume, volume, IsNumber, total, block_at, fields, body, bitmap_lbn, is_free_cluster, is_used_number, active_rows}
 use Rattle.vol_parts.specs.Catalogues.{rows_sorted, catalogue}
 use Rattle.vol_parts.specs.Fatal.{dir_fault, has_two_rows, IsFatalIn}
+use Rattle.vol_spell.specs.Accepting.{IsBeside}
 use Rattle.vol_init.specs.Layouts.{main_entries}
 use Rattle.vol_sound.specs.Sound.{is_sound, is_kept}
 use Rattle.vol_sound.specs.Freeing.{HasSystem, HasAllFreed}
@@ -49,18 +49,9 @@ pub record IsBegun (home : Home) (old new : List Block) : Type 0 where
   pub clusters : (q : ℕ) → q < total (volume home old) → is_free_cluster (volume home new) q ≡ (is_free_cluster (volume home old) q && not (is_in_kept (volume home old) q))
   pub numbers : (n : ℕ) → IsNumber (volume home old) n → is_used_number (volume home new) n ≡ (is_used_number (volume home old) n || is_kept (volume home old) n)
 
--- the findings that the spelling of a catalogue does not rest on
-abbrev pub IsLeft : Finding → Type 0
-IsLeft (finding.NoQuotaRow n) = Unit {0}
-IsLeft (finding.SystemEntry n) = Unit {0}
-IsLeft (finding.MarkedDir n) = Unit {0}
-IsLeft (finding.DirLoop n) = Unit {0}
-IsLeft (finding.NoRoom n) = Unit {0}
-IsLeft f = ⊥
-
--- Where nothing is beyond repair, such blocks have no other fatal finding, and tell the catalogue that the repair begins with.
+-- Where nothing is beyond repair, such blocks have no fatal finding on which the spelling of a catalogue rests, and tell the catalogue that the repair begins with.
 pub record IsKeptRight (v p : Volume) : Type 0 where
-  pub findings : (f : Finding) → IsFatalIn p f → IsLeft f
+  pub findings : (f : Finding) → IsFatalIn p f → IsBeside f
   pub catalogue : catalogue p ≡ begun v
 
 abbrev pub KeptIsRight : Type 0

@@ -1,4 +1,4 @@
--- The catalogue of a volume with no fatal finding is spelt.
+-- The catalogue of a volume with no fatal finding is spelt, and so is that of one which has findings on which the spelling does not rest.
 use Rattle.std.proofs.Common.{◌≡◌, ◌≢◌, ◌<◌, ◌≤◌, ◌+◌, ◌-◌, ◌*◌, ◌/◌, ◌%◌, ◌⊎◌, ℕ, zero, suc, Bool, true, false, not, List, [], ◌∷◌, Option, Some, None, length, map, slice_get, refl, sym, ap, subst, ◌∙◌, inl, inr, arith, cond, append-nil}
 use Rattle.std.specs.Prelude.{◌↔◌, ◌==◌, ◌&&◌, ◌||◌, nat_lt, nat_le, is_some, Result, Ok, Err, slice_index_or, if◌then◌else◌, count_by}
 use Rattle.std.specs.List.{range_with_len, list_any, find}
@@ -52,7 +52,7 @@ use Rattle.plain_rules.specs.SystemFiles.{is_system_directory}
 use Rattle.vol_parts.specs.Findings.{home_at, IsFatalBy, IsCatalogueBy}
 use Rattle.vol_spell.specs.Reading.{IsFileNumber, total_of, header_block, told_of, chain_told, clusters_of, clusters_told, body_blocks, cluster_bit, number_bit, quota_places, rows_told}
 use Rattle.vol_spell.specs.Spelling.{IsHomeOf, IsHead, IsBlank, IsWhole, AreWhole, dir_found, size_in, has_one_at_most, Tells, IsStructure, run_for, HasStructures, Spells}
-use Rattle.vol_spell.specs.Accepting.{owner_found, cluster_owner, number_owner, owners_told, IsSpelt, CatalogueIsSpelt}
+use Rattle.vol_spell.specs.Accepting.{owner_found, cluster_owner, number_owner, owners_told, IsSpelt, CatalogueIsSpelt, IsBeside, BesideIsSpelt}
 use Rattle.vol_spell.proofs.Heads.{slot_used}
 use Rattle.vol_spell.proofs.OneHeader.{one_sized, none_split}
 use Rattle.vol_parts.proofs.Alone.{file_told, none_told}
@@ -348,7 +348,7 @@ number_never_outside v m node e = by_tests (is_used_number v m) (find (is_slot_o
 
 -- ---- a volume in which nothing fatal is found
 
-module _ (home : Home) (bs : List Block) (read : home_read (home_at bs) ≡ Ok home) (within : IsWithinLimits home) (from : 64 ≤ length bs) (to : length bs ≤ 65536) (blocks : AreWholeBlocks bs) (weak : (f : Finding) → IsFatalIn (volume home bs) f → ⊥) where
+module _ (home : Home) (bs : List Block) (read : home_read (home_at bs) ≡ Ok home) (within : IsWithinLimits home) (from : 64 ≤ length bs) (to : length bs ≤ 65536) (blocks : AreWholeBlocks bs) (weak : (f : Finding) → IsFatalIn (volume home bs) f → IsBeside f) where
   abbrev v : Volume
   v = volume home bs
 
@@ -817,4 +817,7 @@ pub catalogue_is_spelt : CatalogueIsSpelt
 catalogue_is_spelt bs c from to blocks at = by_home (home_read (home_at bs)) refl at.weak at.told where
   by_home : (r : Result Home HomeFault) → home_read (home_at bs) ≡ r → ((f : Finding) → IsFatalBy bs r f → ⊥) → IsCatalogueBy bs r c → IsSpelt bs c
   by_home (Err fault) e weak told = absurd told
-  by_home (Ok home) e weak told = subst (λ (x : Cat). IsSpelt bs x) (sym told) (is_spelt home bs e (limits_of (home_at bs) home e) from to blocks weak)
+  by_home (Ok home) e weak told = subst (λ (x : Cat). IsSpelt bs x) (sym told) (is_spelt home bs e (limits_of (home_at bs) home e) from to blocks (λ f i. absurd (weak f i)))
+
+pub beside_is_spelt : BesideIsSpelt
+beside_is_spelt home bs from to whole read beside = is_spelt home bs read (limits_of (home_at bs) home read) from to whole beside

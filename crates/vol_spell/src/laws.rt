@@ -6,7 +6,7 @@ ghost use Rattle.vol_spell.specs.Kinds.{OutsideWrite, QuotaWrite, StorageWrite, 
 ghost use Rattle.vol_spell.specs.Views.{ToldStays, OthersStay, PartsStay, OutsideStays, BodySet, HeaderSet, SlotSet, StorageSet, IndexSet, QuotaSet};
 ghost use Rattle.vol_spell.specs.Adding.{ClustersAddUp, NumbersAddUp};
 ghost use Rattle.vol_spell.specs.Telling.{VolumeTells};
-ghost use Rattle.vol_spell.specs.Accepting.{CatalogueIsSpelt};
+ghost use Rattle.vol_spell.specs.Accepting.{CatalogueIsSpelt, BesideIsSpelt};
 ghost use Rattle.vol_spell.specs.Packing.{PackingFits};
 ghost use Rattle.vol_spell.specs.Forms.{SpeltHasOneForm, ReadHasOneForm};
 
@@ -136,6 +136,12 @@ pub fn death_leaks()
 /// The catalogue of a volume of 64 to 65,536 whole blocks in which nothing fatal is found is spelt by its blocks, with nothing outside.
 pub fn catalogue_is_spelt()
     ensures { CatalogueIsSpelt }
+{}
+
+/// So is what such a volume tells where the only fatal findings are those of owners without a row, of system entries, marked
+/// directories, loops and room.
+pub fn beside_is_spelt()
+    ensures { BesideIsSpelt }
 {}
 
 /// Blocks of a directory can be written of entries exactly where the entries of the catalogue fit in as many.

@@ -3,7 +3,7 @@ use Rattle.std.specs.Option.{option_map}
 use Rattle.run_engine.specs.Inputs.{OfScript, OfImage}
 use Rattle.run_engine.proofs.Given.{any_script, image_stays}
 use Rattle.clus_top.specs.Calls.{IsAnswer}
-use Rattle.clus_top.specs.Words.{Wanted, wanted, Soak, Analyze, Rebuild, Records, Store, Init, wanted_by}
+use Rattle.clus_top.specs.Words.{Wanted, wanted, Soak, Analyze, Rebuild, Repair, Records, Store, Init, wanted_by}
 use Rattle.clus_top.proofs.Told.{words_told}
 use Rattle.clus_top.proofs.top.done.Goals as goal
 
@@ -42,6 +42,18 @@ returns-in-Some-Rebuild g c =
     (λ bytes. subst (λ (w : Option Wanted). OfImage size told now (λ old new.
     IsAnswer w bytes size old new (g.O.TextOut.written c.args.out.now) (g.O.TextOut.written c.rebuild.new.out) faults faults (g.I.ImageDev.faults c.args.image) (g.I.ImageDev.faults c.rebuild.result.image)
     (g.O.TextOut.faults c.args.out.now) (g.O.TextOut.faults c.rebuild.new.out) c.rebuild.result.status)) e (c.rebuild.ensures bytes faults))
+
+pub returns-in-Some-Repair : goal.returns-in-Some-Repair
+returns-in-Some-Repair g c =
+    let size = g.I.ImageDev.size c.args.image in
+    let told = g.I.ImageDev.told c.args.image in
+    let now = g.I.ImageDev.told c.repair.result.image in
+    let faults = g.T.TextIn.faults c.args.script.now in
+    let e : Some (Repair) ≡ wanted_by c.args.words.now = sym (ap (option_map wanted) (c.in-Some-Repair.is ∙ ap (λ x. Some x) c.in-Some-Repair.field-0-is)) ∙ c.job_of.ensures.wanted in
+    any_script (g.T.TextIn.left c.args.script.now) _
+    (λ bytes. subst (λ (w : Option Wanted). OfImage size told now (λ old new.
+    IsAnswer w bytes size old new (g.O.TextOut.written c.args.out.now) (g.O.TextOut.written c.repair.new.out) faults faults (g.I.ImageDev.faults c.args.image) (g.I.ImageDev.faults c.repair.result.image)
+    (g.O.TextOut.faults c.args.out.now) (g.O.TextOut.faults c.repair.new.out) c.repair.result.status)) e (c.repair.ensures bytes faults))
 
 pub returns-in-Some-Records : goal.returns-in-Some-Records
 returns-in-Some-Records g c =

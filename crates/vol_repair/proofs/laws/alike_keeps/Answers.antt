@@ -1,0 +1,5 @@
+use Rattle.vol_repair.proofs.AlikeKeeping.{alike_keeps}
+use Rattle.vol_repair.proofs.laws.alike_keeps.Goals as goal
+
+pub returns : goal.returns
+returns _ = alike_keeps

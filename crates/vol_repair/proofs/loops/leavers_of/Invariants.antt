@@ -1,0 +1,8 @@
+use Rattle.std.proofs.Common.{◌≡◌, map, take}
+use Rattle.std.specs.Prelude.{filter}
+use Rattle.vol_faults.specs.Places.{place_of}
+use Rattle.vol_repair.specs.Removing.{place_from, is_on_loop}
+use Rattle.vol_repair.proofs.loops.leavers_of.Given as goal
+
+abbrev pub invariant-loop-spot : goal.invariant-loop-spot
+invariant-loop-spot l = map place_from l.all.items ≡ filter (is_on_loop l.cat) (map place_of (take l.spot-index l.spots))

@@ -1,0 +1,17 @@
+pub mod Faults
+pub mod Steps
+pub mod Touched
+pub mod Phases
+pub mod Remaking
+pub mod Rows
+pub mod BitSteps
+pub mod Alike
+pub mod Aims
+pub mod Listed
+pub mod Removing
+pub mod Reached
+pub mod Keeping
+pub mod Repaired
+pub mod Firsts
+pub mod Laws
+pub mod Patching
