@@ -7,9 +7,9 @@ STYLE = """<style>
 text { font: 13px sans-serif; fill: #1b1f24; }
 .small { font-size: 12px; } .head { font-weight: bold; } .mono { font-family: monospace; font-size: 12.5px; }
 .box { fill: #eef3fb; stroke: #4a6ea9; } .warm { fill: #fdf1e3; stroke: #b9781f; } .cool { fill: #e8f5ec; stroke: #3c8a57; }
-.plain { fill: none; stroke: #767c85; } .line { stroke: #57606a; fill: none; } .tip { fill: #57606a; }
+.page { fill: #ffffff; } .plain { fill: none; stroke: #767c85; } .line { stroke: #57606a; fill: none; } .tip { fill: #57606a; }
 @media (prefers-color-scheme: dark) {
-text { fill: #e6edf3; } .box { fill: #1d2a40; stroke: #7ea2dd; } .warm { fill: #3a2a14; stroke: #dda55a; }
+text { fill: #e6edf3; } .page { fill: #0d1117; } .box { fill: #1d2a40; stroke: #7ea2dd; } .warm { fill: #3a2a14; stroke: #dda55a; }
 .cool { fill: #17321f; stroke: #6cc48b; } .plain { stroke: #8b949e; } .line { stroke: #9aa4af; } .tip { fill: #9aa4af; }
 }
 </style>
@@ -38,21 +38,21 @@ class Picture:
         path = os.path.join(os.path.dirname(os.path.abspath(__file__)), self.name + ".svg")
         with open(path, "w") as out:
             out.write(f'<svg xmlns="http://www.w3.org/2000/svg" viewBox="0 0 {self.width} {self.height}" '
-                      f'width="{self.width}" height="{self.height}" role="img">\n<title>{escape(self.title)}</title>\n{STYLE}\n'
+                      f'width="{self.width}" height="{self.height}" role="img">\n<title>{escape(self.title)}</title>\n{STYLE}\n<rect class="page" width="{self.width}" height="{self.height}"/>\n'
                       + "\n".join(self.parts) + "\n</svg>\n")
 
 
 def nodes():
-    p = Picture("nodes", 760, 400, "Nodes with locks, caches and stocks over one drive and its image")
+    p = Picture("nodes", 760, 400, "Nodes with locks, caches and preallocated space over one drive and its image")
     for i, name in enumerate(["node 1", "node 2", "node 3 .. 8"]):
         x = 20 + 250 * i
         p.box(x, 10, 220, 130, [], "box")
         p.text(x + 110, 32, name, "head")
         p.box(x + 15, 44, 190, 26, ["cache: up to 64 blocks"], "cool")
-        p.box(x + 15, 74, 190, 26, ["stock of free clusters"], "cool")
+        p.box(x + 15, 74, 190, 26, ["preallocated free space"], "cool")
         p.box(x + 15, 104, 190, 26, ["locks that it holds"], "warm")
         p.arrow([(x + 110, 140), (x + 110, 178)])
-    p.box(20, 180, 720, 56, ["lock table", "one lock for each file, Q quotas, V bitmaps, X stocks; a value block with each"], "warm")
+    p.box(20, 180, 720, 56, ["lock table", "one lock for each file, Q quotas, V bitmaps, X free space; a value block with each"], "warm")
     p.arrow([(380, 236), (380, 268)])
     p.text(392, 257, "a node writes only under its locks", "small", "start")
     p.box(20, 270, 720, 46, ["drive", "all blocks of the volume, in memory"])
@@ -103,14 +103,14 @@ def create():
         middle = 83 + 185 * i
         p.box(middle - 45, 148, 90, 34, [stage], "cool" if stage in ("nothing", "done") else "warm")
         p.arrow([(middle, 146), (middle, 94)])
-    p.text(545, 208, "Up to the header what writes 1 and 2 took is leaked. The node's stock is leaked by every death.", "small")
+    p.text(545, 208, "Before the header is written, what writes 1 and 2 took is leaked. The node's preallocated space is leaked by every death.", "small")
     p.save()
 
 
 def layers():
     names = [
         ("1. Words that all share", "base_words"),
-        ("2. The outside", "blk_drive, fx_text, edge_files"),
+        ("2. The outside", "blk_drive, blk_files, fx_text .."),
         ("3. Blocks of the format", "fx_home, fx_header, fx_dir .."),
         ("4. The plain volume", "plain_cat, plain_rules, plain_vol .."),
         ("5. Locks, caches and stocks", "lock_db, node_locks, node_cache .."),

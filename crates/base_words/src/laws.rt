@@ -1,3 +1,5 @@
+//! Laws of fields and checksums: what is written reads back, and stays apart from the rest.
+
 ghost use Rattle.base_words.specs.FieldLaws.{ReadsBack, StaysApart, IsSummed};
 
 /// A field that was written reads back.

@@ -4,13 +4,14 @@ use Rattle.std.specs.Prelude.{slice_range}
 use Rattle.std.proofs.lemmas.List.Edits.{between_none, between_more}
 use Rattle.base_words.specs.Fields.{Block}
 
--- the blocks from `lbn` to `at` are appended, those of the image stay, and its count did not fall
-pub record HasRead (bs bs' : List Block) (lbn at : ℕ) (old all : List Block) (len len' capacity capacity' before now : ℕ) : Type 0 where
+-- the blocks from `lbn` to `at` are appended, those of the image stay, its count of faults did not fall, and no write was lost
+pub record HasRead (bs bs' : List Block) (lbn at : ℕ) (old all : List Block) (len len' capacity capacity' before now lost lost' : ℕ) : Type 0 where
   pub items : all ≡ old ++ slice_range bs lbn at
   pub count : len' + lbn ≡ len + at
   pub room : capacity' ≡ capacity
   pub same : bs' ≡ bs
   pub later : before ≤ now
+  pub kept : lost' ≡ lost
 
 pub read-none : (bs : List Block) (lbn : ℕ) (old : List Block) → old ≡ old ++ slice_range bs lbn lbn
 read-none bs lbn old = sym (ap (λ xs. old ++ xs) (between_none bs lbn) ∙ append-nil old)

@@ -1,6 +1,6 @@
 //! The shared drive: an image of 64 to 65,536 blocks, and a copy of all of them in memory.
 //!
-//! `ImageDev` is the trait of an image, `MemImage` one in memory, `FileImage` one over a file. `Mirror` is the drive.
+//! `ImageDev` is the trait of an image, `MemImage` one in memory. `Mirror` is the drive.
 //!
 //! ```text
 //! match Mirror::load(alloc, image) {
@@ -11,9 +11,9 @@
 //!
 //! `load` gives the very blocks of the image, or the image back with the cause. `write` changes one block, on the image and then
 //! in memory. After a failed write memory is as before, and the image's block is whole, old or new. `ImageFault` comes only if
-//! the image's count of faults rose in that call, or is at its last value. What `FileImage` reads and writes is only tested.
+//! the image's count of faults rose in that call, or is at its last value. Failed writes are counted by themselves too.
 //!
-//! `vol_init` and `vol_rebuild` write through it, the core shares it, and the programs open images with it.
+//! `vol_init` and `vol_rebuild` write through it, and the core shares it. `blk_files` has the image in a file.
 #![tactic(auto)]
 
 ghost use Rattle.std.specs.Prelude.{◌≡◌, ◌<◌, ◌≤◌, ◌+◌, ◌++◌, ◌⊎◌, ℕ, List, Option, Some, slice_get, slice_range, IfOk, IfSome, OnOk, OnErr, vec_len};
@@ -22,12 +22,10 @@ ghost use Rattle.base_words.specs.Fields.{Block};
 ghost use Rattle.base_words.specs.Faults.{HasCause};
 ghost use Rattle.blk_drive.specs.Images.{HasSize, told_set};
 
-mod files;
 mod memory;
 mod mirror;
 
 use base_words::Block;
-pub use files::FileImage;
 pub use memory::{Fail, MemImage};
 pub use mirror::{ImageFault, LoadFault, LoadRefused, Mirror, NoMemory};
 
@@ -37,7 +35,8 @@ pub struct DevFault;
 
 /// An image of a volume: a number of blocks of 512 bytes, by logical block number (LBN) from 0 on.
 ///
-/// Some images tell their blocks; each has a size, and counts its failed calls, in 64 bits and up to the last value.
+/// Some images tell their blocks. Each has a size, and counts its failed calls, and among them its lost writes, in 64 bits and up to the
+/// last value.
 pub trait ImageDev: Drop {
     ghost told: { Self → Option (List Block) };
 
@@ -45,11 +44,14 @@ pub trait ImageDev: Drop {
 
     ghost faults: { Self → ℕ };
 
+    ghost lost: { Self → ℕ };
+
     /// How many blocks there are.
     fn blocks(&mut self) -> Result<u32, DevFault>
         ensures answer { IfOk result (λ n. n ≡ size self.old) }
         ensures told { told self.new ≡ told self.old }
         ensures size { size self.new ≡ size self.old }
+        ensures lost { lost self.new ≡ lost self.old }
         ensures cause { HasCause (faults self.old) (faults self.new) result };
 
     /// Reads a block.
@@ -58,6 +60,7 @@ pub trait ImageDev: Drop {
         ensures block { OnOk result (IfSome (told self.old) (λ blocks. slice_get blocks lbn ≡ Some b.new)) }
         ensures told { told self.new ≡ told self.old }
         ensures size { size self.new ≡ size self.old }
+        ensures lost { lost self.new ≡ lost self.old }
         ensures cause { HasCause (faults self.old) (faults self.new) result };
 
     /// Reads so many blocks from `lbn` on, and appends them to the list, which has room for them. After a failed read it may have the first ones.
@@ -68,6 +71,7 @@ pub trait ImageDev: Drop {
         ensures count { OnOk result (vec_len all.new ≡ vec_len all.old + count) }
         ensures told { told self.new ≡ told self.old }
         ensures size { size self.new ≡ size self.old }
+        ensures lost { lost self.new ≡ lost self.old }
         ensures cause { HasCause (faults self.old) (faults self.new) result };
 
     /// Writes a block, and changes no other. After a failed write the block is whole, old or new.
@@ -76,7 +80,11 @@ pub trait ImageDev: Drop {
         ensures ok { OnOk result (told self.new ≡ told_set (told self.old) lbn b.now) }
         ensures failed { OnErr result ((told self.new ≡ told self.old) ⊎ (told self.new ≡ told_set (told self.old) lbn b.now)) }
         ensures size { size self.new ≡ size self.old }
-        ensures cause { HasCause (faults self.old) (faults self.new) result };
+        ensures cause { HasCause (faults self.old) (faults self.new) result }
+
+        // It is lost where it failed, and only there.
+        ensures kept { OnOk result (lost self.new ≡ lost self.old) }
+        ensures lost { HasCause (lost self.old) (lost self.new) result };
 
     ghost counted: { (image : Self) → HasSize (told image) (size image) };
 }

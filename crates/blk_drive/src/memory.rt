@@ -22,6 +22,7 @@ pub struct MemImage {
     failing: Vec<Fail>,
     calls: u64,
     faults: u64,
+    lost: u64,
 }
 
 impl Model for MemImage {
@@ -30,7 +31,7 @@ impl Model for MemImage {
 
     ghost Value = { Memory };
 
-    ghost view = { λ m. record { blocks = m.blocks.items; failing = m.failing.items; calls = m.calls; faults = m.faults } };
+    ghost view = { λ m. record { blocks = m.blocks.items; failing = m.failing.items; calls = m.calls; faults = m.faults; lost = m.lost } };
 
     ghost invariant = { λ m. length m.blocks.items < 2 ^ 32 };
 }
@@ -51,13 +52,14 @@ impl MemImage {
     /// An image of these blocks, which fails at these calls.
     pub fn new(blocks: Vec<Block>, failing: Vec<Fail>) -> MemImage
         requires { length blocks.items < 2 ^ 32 }
-        ensures { result ≡ record { blocks = blocks.items; failing = failing.items; calls = 0; faults = 0 } }
+        ensures { result ≡ record { blocks = blocks.items; failing = failing.items; calls = 0; faults = 0; lost = 0 } }
     {
         MemImage {
             blocks,
             failing,
             calls: 0,
             faults: 0,
+            lost: 0,
         }
     }
 
@@ -91,12 +93,15 @@ impl ImageDev for MemImage {
 
     ghost faults = { λ m. m.faults };
 
+    ghost lost = { λ m. m.lost };
+
     ghost counted = { λ m. refl };
 
     fn blocks(&mut self) -> Result<u32, DevFault>
         ensures answer { IfOk result (λ n. n ≡ length self.old.blocks) }
         ensures told { Some self.new.blocks ≡ Some self.old.blocks }
         ensures size { length self.new.blocks ≡ length self.old.blocks }
+        ensures lost { self.new.lost ≡ self.old.lost }
         ensures cause { HasCause self.old.faults self.new.faults result }
         ensures fails { IsErr result ↔ IsSome (failure self.old) }
         ensures called { self.new ≡ called self.old }
@@ -112,6 +117,7 @@ impl ImageDev for MemImage {
         ensures block { OnOk result (slice_get self.old.blocks lbn ≡ Some b.new) }
         ensures told { Some self.new.blocks ≡ Some self.old.blocks }
         ensures size { length self.new.blocks ≡ length self.old.blocks }
+        ensures lost { self.new.lost ≡ self.old.lost }
         ensures cause { HasCause self.old.faults self.new.faults result }
         ensures fails { IsErr result ↔ IsSome (failure self.old) }
         ensures called { self.new ≡ called self.old }
@@ -142,6 +148,8 @@ impl ImageDev for MemImage {
         ensures failed { OnErr result ((Some self.new.blocks ≡ Some self.old.blocks) ⊎ (Some self.new.blocks ≡ told_set (Some self.old.blocks) lbn b.now)) }
         ensures size { length self.new.blocks ≡ length self.old.blocks }
         ensures cause { HasCause self.old.faults self.new.faults result }
+        ensures kept { OnOk result (self.new.lost ≡ self.old.lost) }
+        ensures lost { HasCause self.old.lost self.new.lost result }
         ensures fails { IsErr result ↔ IsSome (failure self.old) }
         ensures written { self.new ≡ written self.old lbn b.now }
     {
@@ -151,6 +159,7 @@ impl ImageDev for MemImage {
                 Ok(())
             }
             Some(fail) => {
+                self.lost = self.lost.saturating_add(1);
                 if fail.lands {
                     self.blocks[lbn as usize] = *b;
                 }

@@ -90,6 +90,7 @@ fn blocks_of<I: ImageDev>(alloc: Global, image: &mut I) -> Result<Vec<Block>, Lo
     ensures cause { IfErr result (HasLoadCause (I.size image.old) (I.faults image.old) (I.faults image.new)) }
     ensures told { I.told image.new ≡ I.told image.old }
     ensures size { I.size image.new ≡ I.size image.old }
+    ensures lost { I.lost image.new ≡ I.lost image.old }
     ensures later { I.faults image.old ≤ I.faults image.new }
 {
     let size = image.blocks()?;
@@ -115,6 +116,7 @@ impl<I: ImageDev> Mirror<I> {
         // The image comes back as it was, with each answer.
         ensures told { I.told (image_of result) ≡ I.told image }
         ensures size { I.size (image_of result) ≡ I.size image }
+        ensures lost { I.lost (image_of result) ≡ I.lost image }
         ensures later { I.faults image ≤ I.faults (image_of result) }
     {
         match blocks_of(alloc, &mut image) {
@@ -161,6 +163,10 @@ impl<I: ImageDev> Mirror<I> {
             ⊎ (I.told self.new.image ≡ told_set (I.told self.old.image) lbn b.now)) }
         ensures size { I.size self.new.image ≡ I.size self.old.image }
         ensures cause { HasCause (I.faults self.old.image) (I.faults self.new.image) result }
+
+        // It is lost where it failed, and only there.
+        ensures kept { OnOk result (I.lost self.new.image ≡ I.lost self.old.image) }
+        ensures lost { HasCause (I.lost self.old.image) (I.lost self.new.image) result }
     {
         match self.image.write_block(lbn, b) {
             Ok(()) => {

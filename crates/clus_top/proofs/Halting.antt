@@ -91,12 +91,12 @@ mount_halt s bs had has f h = inl (mount_stop s bs f h)
 
 -- ---- on an image
 
-pub halt_on : (script : Script) (size : ℕ) (old new : List Block) (first had has : ℕ) (x : Halt) → IsInside size → first ≤ had → IsHaltIn script old new had has x → IsImageHalt script size old new first has x
-halt_on script size old new first had has (halt.Cut text) inside later end = (rose_later first had has later end.0, end.1)
-halt_on script size old new first had has halt.NoLines inside later end = (rose_later first had has later end.0, end.1)
-halt_on script size old new first had has (halt.Unmended text f) inside later end = (record { inside = inside; accepted = end.0.run.left.accepted }, end)
-halt_on script size old new first had has (halt.By s) inside later (inl end) = inl (quiet_on script size old new first has s inside end)
-halt_on script size old new first had has (halt.By s) inside later (inr end) = inr end
+pub halt_on : (script : Script) (size : ℕ) (old new : List Block) (first had has lost losing : ℕ) (x : Halt) → IsInside size → first ≤ had → IsHaltIn script old new had has x → IsImageHalt script size old new first has lost losing x
+halt_on script size old new first had has lost losing (halt.Cut text) inside later end = (rose_later first had has later end.0, end.1)
+halt_on script size old new first had has lost losing halt.NoLines inside later end = (rose_later first had has later end.0, end.1)
+halt_on script size old new first had has lost losing (halt.Unmended text f) inside later end = (record { inside = inside; accepted = end.0.run.left.accepted }, end)
+halt_on script size old new first had has lost losing (halt.By s) inside later (inl end) = inl (quiet_on script size old new first has lost losing s inside end)
+halt_on script size old new first had has lost losing (halt.By s) inside later (inr end) = inr end
 
 -- ---- the script of a job
 
@@ -152,9 +152,9 @@ module _ (bytes : List ℕ) (script : Script) (spelt : SpellsWithin script bytes
   }
 
   -- why the image gave no mended end is why the run has no report
-  pub run_halt : (read reading had has : ℕ) (x : Halt) → IsImageHalt script size old new had has x → IsRunHalt bytes size old new read reading had has x
-  run_halt read reading had has (halt.Cut text) end = (good bytes script spelt, end.0, short_or_behind (IsScriptOf bytes) script spelt.spelt old new text.items end.1)
-  run_halt read reading had has halt.NoLines end = (good bytes script spelt, end.0, cut_or_partly (IsScriptOf bytes) script spelt.spelt old new end.1)
-  run_halt read reading had has (halt.Unmended text f) end = (good bytes script spelt, end.0, unmended_of (IsScriptOf bytes) script spelt.spelt old new f text.items (rest end))
-  run_halt read reading had has (halt.By s) (inl end) = inl (run_end bytes script spelt size old new read reading had has s end)
-  run_halt read reading had has (halt.By s) (inr end) = inr (end.0, partly_of (IsScriptOf bytes) script spelt.spelt old new (rest end))
+  pub run_halt : (read reading had has lost losing : ℕ) (x : Halt) → IsImageHalt script size old new had has lost losing x → IsRunHalt bytes size old new read reading had has lost losing x
+  run_halt read reading had has lost losing (halt.Cut text) end = (good bytes script spelt, end.0, short_or_behind (IsScriptOf bytes) script spelt.spelt old new text.items end.1)
+  run_halt read reading had has lost losing halt.NoLines end = (good bytes script spelt, end.0, cut_or_partly (IsScriptOf bytes) script spelt.spelt old new end.1)
+  run_halt read reading had has lost losing (halt.Unmended text f) end = (good bytes script spelt, end.0, unmended_of (IsScriptOf bytes) script spelt.spelt old new f text.items (rest end))
+  run_halt read reading had has lost losing (halt.By s) (inl end) = inl (run_end bytes script spelt size old new read reading had has lost losing s end)
+  run_halt read reading had has lost losing (halt.By s) (inr end) = inr (end.0, partly_of (IsScriptOf bytes) script spelt.spelt old new (rest end))

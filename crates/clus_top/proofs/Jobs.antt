@@ -76,27 +76,27 @@ module _ (bytes : List ℕ) (script : Script) (spelt : SpellsWithin script bytes
   }
 
   -- why the image gave no end is why the run gave no report
-  pub run_end : (read reading had has : ℕ) (s : Status) → IsImageEnd script size old new had has s → IsRunEnd bytes size old new read reading had has s
-  run_end read reading had has status.ImageFault end = (good bytes script spelt, end.0, end.1)
-  run_end read reading had has (status.BadSize n) end = ((good bytes script spelt, end.0.0, end.0.1), end.1)
-  run_end read reading had has (status.NotAccepted f) end = ((good bytes script spelt, end.0.0, end.0.1), end.1)
-  run_end read reading had has status.NoMemory (inl e) = inl e
-  run_end read reading had has status.NoMemory (inr d) = inr (lacking_of (IsScriptOf bytes) script spelt.spelt old new d)
-  run_end read reading had has s end = absurd end
+  pub run_end : (read reading had has lost losing : ℕ) (s : Status) → IsImageEnd script size old new had has lost losing s → IsRunEnd bytes size old new read reading had has lost losing s
+  run_end read reading had has lost losing status.ImageFault end = (good bytes script spelt, end.0, end.1, end.2)
+  run_end read reading had has lost losing (status.BadSize n) end = ((good bytes script spelt, end.0.0, end.0.1), end.1)
+  run_end read reading had has lost losing (status.NotAccepted f) end = ((good bytes script spelt, end.0.0, end.0.1), end.1)
+  run_end read reading had has lost losing status.NoMemory (inl e) = inl e
+  run_end read reading had has lost losing status.NoMemory (inr d) = inr (lacking_of (IsScriptOf bytes) script spelt.spelt old new d)
+  run_end read reading had has lost losing s end = absurd end
 
-  pub run_stop : (read reading had has : ℕ) (s : Stop) → IsImageStop script size old new had has s → IsRunStop bytes size old new read reading had has s
-  run_stop read reading had has (stop.Cut text) end = (good bytes script spelt, end.0, short_of (IsScriptOf bytes) script spelt.spelt old new text.items end.1)
-  run_stop read reading had has stop.NoLines end = (good bytes script spelt, end.0, cut_of (IsScriptOf bytes) script spelt.spelt old new end.1)
-  run_stop read reading had has (stop.By s) end = run_end read reading had has s end
+  pub run_stop : (read reading had has lost losing : ℕ) (s : Stop) → IsImageStop script size old new had has lost losing s → IsRunStop bytes size old new read reading had has lost losing s
+  run_stop read reading had has lost losing (stop.Cut text) end = (good bytes script spelt, end.0, short_of (IsScriptOf bytes) script spelt.spelt old new text.items end.1)
+  run_stop read reading had has lost losing stop.NoLines end = (good bytes script spelt, end.0, cut_of (IsScriptOf bytes) script spelt.spelt old new end.1)
+  run_stop read reading had has lost losing (stop.By s) end = run_end read reading had has lost losing s end
 
 -- why there is no script is why the run gave no report, and the image stays
-pub script_end : (bytes : List ℕ) (size : ℕ) (bs : List Block) (read reading had has : ℕ) (s : Status) → IsScriptEnd bytes read reading s → IsRunEnd bytes size bs bs read reading had has s
-script_end bytes size bs read reading had has status.ScriptFault h = (h, refl)
-script_end bytes size bs read reading had has status.ScriptTooLong h = (h, refl)
-script_end bytes size bs read reading had has (status.BadScript n) h = (h, refl)
-script_end bytes size bs read reading had has status.TooMany h = (h, refl)
-script_end bytes size bs read reading had has status.NoMemory h = inl refl
-script_end bytes size bs read reading had has s h = absurd h
+pub script_end : (bytes : List ℕ) (size : ℕ) (bs : List Block) (read reading had has lost losing : ℕ) (s : Status) → IsScriptEnd bytes read reading s → IsRunEnd bytes size bs bs read reading had has lost losing s
+script_end bytes size bs read reading had has lost losing status.ScriptFault h = (h, refl)
+script_end bytes size bs read reading had has lost losing status.ScriptTooLong h = (h, refl)
+script_end bytes size bs read reading had has lost losing (status.BadScript n) h = (h, refl)
+script_end bytes size bs read reading had has lost losing status.TooMany h = (h, refl)
+script_end bytes size bs read reading had has lost losing status.NoMemory h = inl refl
+script_end bytes size bs read reading had has lost losing s h = absurd h
 
 -- ---- a script that is drawn
 
@@ -110,15 +110,15 @@ module _ (n : ℕ) (script : Script) (drawn : IsSoakOf n script) (size : ℕ) (o
   }
 
   -- why the image gave no end is why the soak gave no summary
-  soak_end : (had has : ℕ) (s : Status) → IsImageEnd script size old new had has s → IsSoakEnd n size old new had has s
-  soak_end had has status.ImageFault end = end
-  soak_end had has (status.BadSize k) end = end
-  soak_end had has (status.NotAccepted f) end = end
-  soak_end had has status.NoMemory (inl e) = inl e
-  soak_end had has status.NoMemory (inr d) = inr (lacking_of (IsSoakOf n) script drawn old new d)
-  soak_end had has s end = absurd end
+  soak_end : (had has lost losing : ℕ) (s : Status) → IsImageEnd script size old new had has lost losing s → IsSoakEnd n size old new had has lost losing s
+  soak_end had has lost losing status.ImageFault end = end
+  soak_end had has lost losing (status.BadSize k) end = end
+  soak_end had has lost losing (status.NotAccepted f) end = end
+  soak_end had has lost losing status.NoMemory (inl e) = inl e
+  soak_end had has lost losing status.NoMemory (inr d) = inr (lacking_of (IsSoakOf n) script drawn old new d)
+  soak_end had has lost losing s end = absurd end
 
-  pub soak_stop : (had has : ℕ) (s : Stop) → IsImageStop script size old new had has s → IsSoakStop n size old new had has s
-  soak_stop had has (stop.Cut text) end = (end.0, short_of (IsSoakOf n) script drawn old new text.items end.1)
-  soak_stop had has stop.NoLines end = (end.0, cut_of (IsSoakOf n) script drawn old new end.1)
-  soak_stop had has (stop.By s) end = soak_end had has s end
+  pub soak_stop : (had has lost losing : ℕ) (s : Stop) → IsImageStop script size old new had has lost losing s → IsSoakStop n size old new had has lost losing s
+  soak_stop had has lost losing (stop.Cut text) end = (end.0, short_of (IsSoakOf n) script drawn old new text.items end.1)
+  soak_stop had has lost losing stop.NoLines end = (end.0, cut_of (IsSoakOf n) script drawn old new end.1)
+  soak_stop had has lost losing (stop.By s) end = soak_end had has lost losing s end

@@ -20,17 +20,17 @@ lacking_due (Some (Records n seq)) bytes size bs = tt
 lacking_due (Some (Store n seq)) bytes size bs = tt
 lacking_due (Some (Init cluster files label)) bytes size bs = tt
 
-pub lacking_image : (wanted : Option Wanted) (bytes : List ℕ) (bs : List Block) → IsImageAfter wanted bytes bs bs status.NoMemory
-lacking_image None bytes bs = refl
-lacking_image (Some Run) bytes bs = inl refl
-lacking_image (Some RunRebuild) bytes bs = inl refl
-lacking_image (Some (Soak n)) bytes bs = inl refl
-lacking_image (Some Analyze) bytes bs = refl
-lacking_image (Some Rebuild) bytes bs = record { mends = λ z h. h; kept = λ f h. refl }
-lacking_image (Some Repair) bytes bs = still_same bs
-lacking_image (Some (Records n seq)) bytes bs = refl
-lacking_image (Some (Store n seq)) bytes bs = refl
-lacking_image (Some (Init cluster files label)) bytes bs = inl refl
+pub lacking_image : (wanted : Option Wanted) (bytes : List ℕ) (had has : ℕ) (bs : List Block) → IsImageAfter wanted bytes had has bs bs status.NoMemory
+lacking_image None bytes had has bs = refl
+lacking_image (Some Run) bytes had has bs = inl refl
+lacking_image (Some RunRebuild) bytes had has bs = inl refl
+lacking_image (Some (Soak n)) bytes had has bs = inl refl
+lacking_image (Some Analyze) bytes had has bs = refl
+lacking_image (Some Rebuild) bytes had has bs = record { mends = λ z h. h; kept = λ f h. refl }
+lacking_image (Some Repair) bytes had has bs = still_same bs
+lacking_image (Some (Records n seq)) bytes had has bs = refl
+lacking_image (Some (Store n seq)) bytes had has bs = refl
+lacking_image (Some (Init cluster files label)) bytes had has bs = inl refl
 
 -- it is no verdict
 pub no_verdict : (wanted : Option Wanted) → is_answer_of wanted status.NoMemory ≡ false

@@ -6,9 +6,9 @@ use Rattle.clus_top.specs.Words.{Wanted}
 use Rattle.clus_top.specs.Calls.{IsAnswer, IsCall}
 use Rattle.clus_top.specs.Verdicts.{NoOtherIsDue, GoodRunsAreAnswered}
 
-module _ (wanted : Option Wanted) (size : ℕ) (was now : Option (List ℕ)) (read reading had has before after : ℕ) (s : Status) where
-  pub called : NoOtherIsDue → GoodRunsAreAnswered → (bytes : List ℕ) (old new : List Block) → IsAnswer wanted bytes size old new was now read reading had has before after s
-      → IsCall wanted bytes size old new was now read reading had has before after s
+module _ (wanted : Option Wanted) (size : ℕ) (was now : Option (List ℕ)) (read reading had has lost losing before after : ℕ) (s : Status) where
+  pub called : NoOtherIsDue → GoodRunsAreAnswered → (bytes : List ℕ) (old new : List Block) → IsAnswer wanted bytes size old new was now read reading had has lost losing before after s
+      → IsCall wanted bytes size old new was now read reading had has lost losing before after s
   called alone good bytes old new a = record {
     answer = a;
     alone = alone wanted bytes size old s a.due;

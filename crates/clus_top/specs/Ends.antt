@@ -100,19 +100,20 @@ IsStopBy script bs new had has (stop.Cut text) = Rose had has × IsCutShortIn sc
 IsStopBy script bs new had has stop.NoLines = Rose had has × IsCutIn script bs new
 IsStopBy script bs new had has (stop.By s) = IsStopIn script bs new s
 
--- Why a script came to no end on an image, but for a write that failed, of the load or of the blocks, and what the image has then.
-abbrev pub IsImageEnd : Script → ℕ → List Block → List Block → ℕ → ℕ → Status → Type 0
-IsImageEnd script size old new had has status.ImageFault = Rose had has × (new ≡ old)
-IsImageEnd script size old new had has (status.BadSize n) = ((n ≡ size) × IsOutside size) × (new ≡ old)
-IsImageEnd script size old new had has (status.NotAccepted f) = (IsInside size × IsFirstFound old f) × (new ≡ old)
-IsImageEnd script size old new had has status.NoMemory = (new ≡ old) ⊎ IsLackingIn script old new
-IsImageEnd script size old new had has s = ⊥
+-- Why a script came to no end on an image, but for a write that failed: of the load, in which no write was lost, or of the blocks; and what
+-- the image has then. Of the four counts two are of failed calls, and two of lost writes.
+abbrev pub IsImageEnd : Script → ℕ → List Block → List Block → ℕ → ℕ → ℕ → ℕ → Status → Type 0
+IsImageEnd script size old new had has lost losing status.ImageFault = Rose had has × (new ≡ old) × (losing ≡ lost)
+IsImageEnd script size old new had has lost losing (status.BadSize n) = ((n ≡ size) × IsOutside size) × (new ≡ old)
+IsImageEnd script size old new had has lost losing (status.NotAccepted f) = (IsInside size × IsFirstFound old f) × (new ≡ old)
+IsImageEnd script size old new had has lost losing status.NoMemory = (new ≡ old) ⊎ IsLackingIn script old new
+IsImageEnd script size old new had has lost losing s = ⊥
 
 -- why it came to none
-abbrev pub IsImageStop : Script → ℕ → List Block → List Block → ℕ → ℕ → Stop → Type 0
-IsImageStop script size old new had has (stop.Cut text) = Rose had has × IsCutShortIn script old new text.items
-IsImageStop script size old new had has stop.NoLines = Rose had has × IsCutIn script old new
-IsImageStop script size old new had has (stop.By s) = IsImageEnd script size old new had has s
+abbrev pub IsImageStop : Script → ℕ → List Block → List Block → ℕ → ℕ → ℕ → ℕ → Stop → Type 0
+IsImageStop script size old new had has lost losing (stop.Cut text) = Rose had has × IsCutShortIn script old new text.items
+IsImageStop script size old new had has lost losing stop.NoLines = Rose had has × IsCutIn script old new
+IsImageStop script size old new had has lost losing (stop.By s) = IsImageEnd script size old new had has lost losing s
 
 -- a run of the script that these bytes spell has come to its end, and this is its report
 pub record IsReported (bytes : List ℕ) (size : ℕ) (old new : List Block) (text : List ℕ) : Type 0 where
@@ -128,36 +129,36 @@ pub record IsSummarized (n size : ℕ) (old new : List Block) (text : List ℕ) 
   pub drive : IsLastDriveOf (IsSoakOf n) old new
 
 -- Why a run gave no report, but for a write that failed: of the script, of the load, or of the blocks; and what the image has then.
-abbrev pub IsRunEnd : List ℕ → ℕ → List Block → List Block → ℕ → ℕ → ℕ → ℕ → Status → Type 0
-IsRunEnd bytes size old new read reading had has status.ScriptFault = Rose read reading × (new ≡ old)
-IsRunEnd bytes size old new read reading had has status.ScriptTooLong = IsTooLong bytes × (new ≡ old)
-IsRunEnd bytes size old new read reading had has (status.BadScript n) = IsBad n bytes × (new ≡ old)
-IsRunEnd bytes size old new read reading had has status.TooMany = IsOverfull bytes × (new ≡ old)
-IsRunEnd bytes size old new read reading had has status.ImageFault = IsGood bytes × Rose had has × (new ≡ old)
-IsRunEnd bytes size old new read reading had has (status.BadSize n) = (IsGood bytes × (n ≡ size) × IsOutside size) × (new ≡ old)
-IsRunEnd bytes size old new read reading had has (status.NotAccepted f) = (IsGood bytes × IsInside size × IsFirstFound old f) × (new ≡ old)
-IsRunEnd bytes size old new read reading had has status.NoMemory = (new ≡ old) ⊎ IsLackingDriveOf (IsScriptOf bytes) old new
-IsRunEnd bytes size old new read reading had has s = ⊥
+abbrev pub IsRunEnd : List ℕ → ℕ → List Block → List Block → ℕ → ℕ → ℕ → ℕ → ℕ → ℕ → Status → Type 0
+IsRunEnd bytes size old new read reading had has lost losing status.ScriptFault = Rose read reading × (new ≡ old)
+IsRunEnd bytes size old new read reading had has lost losing status.ScriptTooLong = IsTooLong bytes × (new ≡ old)
+IsRunEnd bytes size old new read reading had has lost losing (status.BadScript n) = IsBad n bytes × (new ≡ old)
+IsRunEnd bytes size old new read reading had has lost losing status.TooMany = IsOverfull bytes × (new ≡ old)
+IsRunEnd bytes size old new read reading had has lost losing status.ImageFault = IsGood bytes × Rose had has × (new ≡ old) × (losing ≡ lost)
+IsRunEnd bytes size old new read reading had has lost losing (status.BadSize n) = (IsGood bytes × (n ≡ size) × IsOutside size) × (new ≡ old)
+IsRunEnd bytes size old new read reading had has lost losing (status.NotAccepted f) = (IsGood bytes × IsInside size × IsFirstFound old f) × (new ≡ old)
+IsRunEnd bytes size old new read reading had has lost losing status.NoMemory = (new ≡ old) ⊎ IsLackingDriveOf (IsScriptOf bytes) old new
+IsRunEnd bytes size old new read reading had has lost losing s = ⊥
 
 -- why it gave none
-abbrev pub IsRunStop : List ℕ → ℕ → List Block → List Block → ℕ → ℕ → ℕ → ℕ → Stop → Type 0
-IsRunStop bytes size old new read reading had has (stop.Cut text) = IsGood bytes × Rose had has × IsCutShort (IsScriptOf bytes) old new text.items
-IsRunStop bytes size old new read reading had has stop.NoLines = IsGood bytes × Rose had has × IsCutOf (IsScriptOf bytes) old new
-IsRunStop bytes size old new read reading had has (stop.By s) = IsRunEnd bytes size old new read reading had has s
+abbrev pub IsRunStop : List ℕ → ℕ → List Block → List Block → ℕ → ℕ → ℕ → ℕ → ℕ → ℕ → Stop → Type 0
+IsRunStop bytes size old new read reading had has lost losing (stop.Cut text) = IsGood bytes × Rose had has × IsCutShort (IsScriptOf bytes) old new text.items
+IsRunStop bytes size old new read reading had has lost losing stop.NoLines = IsGood bytes × Rose had has × IsCutOf (IsScriptOf bytes) old new
+IsRunStop bytes size old new read reading had has lost losing (stop.By s) = IsRunEnd bytes size old new read reading had has lost losing s
 
 -- Why a soak gave no summary, but for a write that failed: of the load, or of the blocks; and what the image has then.
-abbrev pub IsSoakEnd : ℕ → ℕ → List Block → List Block → ℕ → ℕ → Status → Type 0
-IsSoakEnd n size old new had has status.ImageFault = Rose had has × (new ≡ old)
-IsSoakEnd n size old new had has (status.BadSize k) = ((k ≡ size) × IsOutside size) × (new ≡ old)
-IsSoakEnd n size old new had has (status.NotAccepted f) = (IsInside size × IsFirstFound old f) × (new ≡ old)
-IsSoakEnd n size old new had has status.NoMemory = (new ≡ old) ⊎ IsLackingDriveOf (IsSoakOf n) old new
-IsSoakEnd n size old new had has s = ⊥
+abbrev pub IsSoakEnd : ℕ → ℕ → List Block → List Block → ℕ → ℕ → ℕ → ℕ → Status → Type 0
+IsSoakEnd n size old new had has lost losing status.ImageFault = Rose had has × (new ≡ old) × (losing ≡ lost)
+IsSoakEnd n size old new had has lost losing (status.BadSize k) = ((k ≡ size) × IsOutside size) × (new ≡ old)
+IsSoakEnd n size old new had has lost losing (status.NotAccepted f) = (IsInside size × IsFirstFound old f) × (new ≡ old)
+IsSoakEnd n size old new had has lost losing status.NoMemory = (new ≡ old) ⊎ IsLackingDriveOf (IsSoakOf n) old new
+IsSoakEnd n size old new had has lost losing s = ⊥
 
 -- why it gave none
-abbrev pub IsSoakStop : ℕ → ℕ → List Block → List Block → ℕ → ℕ → Stop → Type 0
-IsSoakStop n size old new had has (stop.Cut text) = Rose had has × IsCutShort (IsSoakOf n) old new text.items
-IsSoakStop n size old new had has stop.NoLines = Rose had has × IsCutOf (IsSoakOf n) old new
-IsSoakStop n size old new had has (stop.By s) = IsSoakEnd n size old new had has s
+abbrev pub IsSoakStop : ℕ → ℕ → List Block → List Block → ℕ → ℕ → ℕ → ℕ → Stop → Type 0
+IsSoakStop n size old new had has lost losing (stop.Cut text) = Rose had has × IsCutShort (IsSoakOf n) old new text.items
+IsSoakStop n size old new had has lost losing stop.NoLines = Rose had has × IsCutOf (IsSoakOf n) old new
+IsSoakStop n size old new had has lost losing (stop.By s) = IsSoakEnd n size old new had has lost losing s
 
 -- the status after findings are told
 abbrev pub IsFoundEnd : List Finding → Status → Type 0

@@ -46,11 +46,11 @@ IsHaltIn script bs new had has (halt.By s) = IsStopIn script bs new s ⊎ ((s �
 
 -- ---- on an image
 
-abbrev pub IsImageHalt : Script → ℕ → List Block → List Block → ℕ → ℕ → Halt → Type 0
-IsImageHalt script size old new had has (halt.Cut text) = Rose had has × (IsCutShortIn script old new text.items ⊎ IsMendingCutIn script old new text.items)
-IsImageHalt script size old new had has halt.NoLines = Rose had has × (IsCutIn script old new ⊎ IsPartlyIn script old new)
-IsImageHalt script size old new had has (halt.Unmended text f) = IsAccepted size old × IsUnmendedIn script old new f text.items
-IsImageHalt script size old new had has (halt.By s) = IsImageEnd script size old new had has s ⊎ ((s ≡ status.NoMemory) × IsPartlyIn script old new)
+abbrev pub IsImageHalt : Script → ℕ → List Block → List Block → ℕ → ℕ → ℕ → ℕ → Halt → Type 0
+IsImageHalt script size old new had has lost losing (halt.Cut text) = Rose had has × (IsCutShortIn script old new text.items ⊎ IsMendingCutIn script old new text.items)
+IsImageHalt script size old new had has lost losing halt.NoLines = Rose had has × (IsCutIn script old new ⊎ IsPartlyIn script old new)
+IsImageHalt script size old new had has lost losing (halt.Unmended text f) = IsAccepted size old × IsUnmendedIn script old new f text.items
+IsImageHalt script size old new had has lost losing (halt.By s) = IsImageEnd script size old new had has lost losing s ⊎ ((s ≡ status.NoMemory) × IsPartlyIn script old new)
 
 -- ---- of the script that is read
 
@@ -61,12 +61,12 @@ pub record IsMendedWith (bytes : List ℕ) (size : ℕ) (old new : List Block) (
   pub report : IsMendedReport (IsScriptOf bytes) old new text
 
 -- Why a run has no report with a mending: of the script, of the load, of the blocks, or of the mending; and what the image has then.
-abbrev pub IsRunHalt : List ℕ → ℕ → List Block → List Block → ℕ → ℕ → ℕ → ℕ → Halt → Type 0
-IsRunHalt bytes size old new read reading had has (halt.Cut text) =
+abbrev pub IsRunHalt : List ℕ → ℕ → List Block → List Block → ℕ → ℕ → ℕ → ℕ → ℕ → ℕ → Halt → Type 0
+IsRunHalt bytes size old new read reading had has lost losing (halt.Cut text) =
     IsGood bytes × Rose had has × (IsCutShort (IsScriptOf bytes) old new text.items ⊎ IsMendingCutShort (IsScriptOf bytes) old new text.items)
-IsRunHalt bytes size old new read reading had has halt.NoLines =
+IsRunHalt bytes size old new read reading had has lost losing halt.NoLines =
     IsGood bytes × Rose had has × (IsCutOf (IsScriptOf bytes) old new ⊎ IsPartlyMended (IsScriptOf bytes) old new)
-IsRunHalt bytes size old new read reading had has (halt.Unmended text f) =
+IsRunHalt bytes size old new read reading had has lost losing (halt.Unmended text f) =
     IsGood bytes × IsAccepted size old × IsUnmendedText (IsScriptOf bytes) old new f text.items
-IsRunHalt bytes size old new read reading had has (halt.By s) =
-    IsRunEnd bytes size old new read reading had has s ⊎ ((s ≡ status.NoMemory) × IsPartlyMended (IsScriptOf bytes) old new)
+IsRunHalt bytes size old new read reading had has lost losing (halt.By s) =
+    IsRunEnd bytes size old new read reading had has lost losing s ⊎ ((s ≡ status.NoMemory) × IsPartlyMended (IsScriptOf bytes) old new)

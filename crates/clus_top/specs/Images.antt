@@ -1,6 +1,7 @@
 -- What the image has after a job.
 use Rattle.std.specs.Prelude.{◌≡◌, ◌⊎◌, ℕ, List, Option, Some, None}
 use Rattle.base_words.specs.Fields.{Block}
+use Rattle.base_words.specs.Faults.{Rose}
 use Rattle.fx_home.specs.declared.home.Home.{Home}
 use Rattle.vol_init.specs.Refusals.{home_of}
 use Rattle.vol_init.specs.Made.{IsMade, IsLeft}
@@ -59,24 +60,25 @@ pub record IsCutOf (IsGiven : Script → Type 0) (bs new : List Block) : Type 0 
   pub torn : IsTornRun ran.start script.plays world before.node (Some new)
 
 -- After a run: the drive of its world, once every node is over; after a fault of the image the old blocks, or the drive as far as the run
--- came but for the block of a write that failed; after want of memory the old blocks, or the drive as far as to where the run lacked it, or
--- what a write that failed left, if the lines of the answers before it found no memory; and else the old blocks.
-abbrev pub IsRunImage : (Script → Type 0) → List Block → List Block → Status → Type 0
-IsRunImage IsGiven old new status.Ok = IsLastDriveOf IsGiven old new
-IsRunImage IsGiven old new status.OutFault = IsLastDriveOf IsGiven old new
-IsRunImage IsGiven old new status.NoMemory = (new ≡ old) ⊎ (IsLackingDriveOf IsGiven old new ⊎ IsCutOf IsGiven old new)
-IsRunImage IsGiven old new status.ImageFault = (new ≡ old) ⊎ IsCutOf IsGiven old new
-IsRunImage IsGiven old new s = new ≡ old
+-- came but for the block of a write that failed; after want of memory the old blocks, or the drive as far as to where the run lacked it, or,
+-- only if the count of failed calls rose from `had` to `has`, what a write that failed left, if the lines of the answers before it found no
+-- memory; and else the old blocks.
+abbrev pub IsRunImage : (Script → Type 0) → ℕ → ℕ → List Block → List Block → Status → Type 0
+IsRunImage IsGiven had has old new status.Ok = IsLastDriveOf IsGiven old new
+IsRunImage IsGiven had has old new status.OutFault = IsLastDriveOf IsGiven old new
+IsRunImage IsGiven had has old new status.NoMemory = (new ≡ old) ⊎ (IsLackingDriveOf IsGiven old new ⊎ (Rose had has × IsCutOf IsGiven old new))
+IsRunImage IsGiven had has old new status.ImageFault = (new ≡ old) ⊎ IsCutOf IsGiven old new
+IsRunImage IsGiven had has old new s = new ≡ old
 
 -- After a run that is mended then: the mended volume; where it cannot be mended the drive of the run; after want of memory or a fault of
 -- the image also the drive of the run as far as the mending came, of which one block may be ahead, and which mends to the same.
-abbrev pub IsRunRebuildImage : (Script → Type 0) → List Block → List Block → Status → Type 0
-IsRunRebuildImage IsGiven old new status.Ok = HasRunAndMended IsGiven old new
-IsRunRebuildImage IsGiven old new status.OutFault = HasRunAndMended IsGiven old new
-IsRunRebuildImage IsGiven old new (status.NotMendable f) = IsUnmended IsGiven old new f
-IsRunRebuildImage IsGiven old new status.NoMemory = (new ≡ old) ⊎ (IsLackingDriveOf IsGiven old new ⊎ (IsCutOf IsGiven old new ⊎ IsPartlyMended IsGiven old new))
-IsRunRebuildImage IsGiven old new status.ImageFault = (new ≡ old) ⊎ (IsCutOf IsGiven old new ⊎ IsPartlyMended IsGiven old new)
-IsRunRebuildImage IsGiven old new s = new ≡ old
+abbrev pub IsRunRebuildImage : (Script → Type 0) → ℕ → ℕ → List Block → List Block → Status → Type 0
+IsRunRebuildImage IsGiven had has old new status.Ok = HasRunAndMended IsGiven old new
+IsRunRebuildImage IsGiven had has old new status.OutFault = HasRunAndMended IsGiven old new
+IsRunRebuildImage IsGiven had has old new (status.NotMendable f) = IsUnmended IsGiven old new f
+IsRunRebuildImage IsGiven had has old new status.NoMemory = (new ≡ old) ⊎ (IsLackingDriveOf IsGiven old new ⊎ ((Rose had has × IsCutOf IsGiven old new) ⊎ IsPartlyMended IsGiven old new))
+IsRunRebuildImage IsGiven had has old new status.ImageFault = (new ≡ old) ⊎ (IsCutOf IsGiven old new ⊎ IsPartlyMended IsGiven old new)
+IsRunRebuildImage IsGiven had has old new s = new ≡ old
 
 -- After a mending: the mended volume; after a fault or want of memory blocks that mend to the same as the old ones, and the old ones
 -- where they have a fatal finding; and else the old blocks.
@@ -104,41 +106,45 @@ pub record IsUnmendedText (IsGiven : Script → Type 0) (bs new : List Block) (f
   pub unmended : IsUnmended IsGiven bs new f
   pub written : text ≡ unmended_text unmended.ran.world.history f
 
--- The text of a fault of the image: of a run that a write cut short the lines of the answers before it, and the text of the fault; and else
--- that alone, and the image has its blocks.
-abbrev pub IsRunFaultText : (Script → Type 0) → List Block → List Block → Status → List ℕ → Type 0
-IsRunFaultText IsGiven old new status.ImageFault text = ((new ≡ old) × (text ≡ status_text status.ImageFault)) ⊎ IsCutShort IsGiven old new text
-IsRunFaultText IsGiven old new s text = IsPlainText s text
+-- a call of the image failed that was no write: its blocks stay, no write is lost, and the text is that of the fault alone
+abbrev pub IsLoadFaultText : ℕ → ℕ → List Block → List Block → List ℕ → Type 0
+IsLoadFaultText lost losing old new text = (new ≡ old) × (losing ≡ lost) × (text ≡ status_text status.ImageFault)
+
+-- The text of a fault of the image, whose count of lost writes was `lost` and is `losing`: of a run that a write cut short the lines of the
+-- answers before it, and the text of the fault; and else that alone, only if no write was lost.
+abbrev pub IsRunFaultText : (Script → Type 0) → ℕ → ℕ → List Block → List Block → Status → List ℕ → Type 0
+IsRunFaultText IsGiven lost losing old new status.ImageFault text = IsLoadFaultText lost losing old new text ⊎ IsCutShort IsGiven old new text
+IsRunFaultText IsGiven lost losing old new s text = IsPlainText s text
 
 -- The same of a run that is mended then: a write of the mending may have failed too, and where it cannot be mended the lines of the
 -- history come before the text.
-abbrev pub IsMendedFaultText : (Script → Type 0) → List Block → List Block → Status → List ℕ → Type 0
-IsMendedFaultText IsGiven old new status.ImageFault text =
-    ((new ≡ old) × (text ≡ status_text status.ImageFault)) ⊎ (IsCutShort IsGiven old new text ⊎ IsMendingCutShort IsGiven old new text)
-IsMendedFaultText IsGiven old new (status.NotMendable f) text = IsUnmendedText IsGiven old new f text
-IsMendedFaultText IsGiven old new s text = IsPlainText s text
+abbrev pub IsMendedFaultText : (Script → Type 0) → ℕ → ℕ → List Block → List Block → Status → List ℕ → Type 0
+IsMendedFaultText IsGiven lost losing old new status.ImageFault text =
+    IsLoadFaultText lost losing old new text ⊎ (IsCutShort IsGiven old new text ⊎ IsMendingCutShort IsGiven old new text)
+IsMendedFaultText IsGiven lost losing old new (status.NotMendable f) text = IsUnmendedText IsGiven old new f text
+IsMendedFaultText IsGiven lost losing old new s text = IsPlainText s text
 
-abbrev pub IsFaultTextOf : Option Wanted → List ℕ → List Block → List Block → Status → List ℕ → Type 0
-IsFaultTextOf (Some Run) bytes old new s text = IsRunFaultText (IsScriptOf bytes) old new s text
-IsFaultTextOf (Some RunRebuild) bytes old new s text = IsMendedFaultText (IsScriptOf bytes) old new s text
-IsFaultTextOf (Some (Soak n)) bytes old new s text = IsRunFaultText (IsSoakOf n) old new s text
-IsFaultTextOf (Some Analyze) bytes old new s text = IsPlainText s text
-IsFaultTextOf (Some Rebuild) bytes old new s text = IsPlainText s text
-IsFaultTextOf (Some Repair) bytes old new s text = IsPlainText s text
-IsFaultTextOf (Some (Records n seq)) bytes old new s text = IsPlainText s text
-IsFaultTextOf (Some (Store n seq)) bytes old new s text = IsPlainText s text
-IsFaultTextOf (Some (Init cluster files label)) bytes old new s text = IsPlainText s text
-IsFaultTextOf None bytes old new s text = IsPlainText s text
+abbrev pub IsFaultTextOf : Option Wanted → List ℕ → ℕ → ℕ → List Block → List Block → Status → List ℕ → Type 0
+IsFaultTextOf (Some Run) bytes lost losing old new s text = IsRunFaultText (IsScriptOf bytes) lost losing old new s text
+IsFaultTextOf (Some RunRebuild) bytes lost losing old new s text = IsMendedFaultText (IsScriptOf bytes) lost losing old new s text
+IsFaultTextOf (Some (Soak n)) bytes lost losing old new s text = IsRunFaultText (IsSoakOf n) lost losing old new s text
+IsFaultTextOf (Some Analyze) bytes lost losing old new s text = IsPlainText s text
+IsFaultTextOf (Some Rebuild) bytes lost losing old new s text = IsPlainText s text
+IsFaultTextOf (Some Repair) bytes lost losing old new s text = IsPlainText s text
+IsFaultTextOf (Some (Records n seq)) bytes lost losing old new s text = IsPlainText s text
+IsFaultTextOf (Some (Store n seq)) bytes lost losing old new s text = IsPlainText s text
+IsFaultTextOf (Some (Init cluster files label)) bytes lost losing old new s text = IsPlainText s text
+IsFaultTextOf None bytes lost losing old new s text = IsPlainText s text
 
 -- After a job: a run, a soak, a mending, a repair, a store and a format write to the image.
-abbrev pub IsImageAfter : Option Wanted → List ℕ → List Block → List Block → Status → Type 0
-IsImageAfter (Some (Init cluster files label)) bytes old new s = IsFormatted (home_of cluster files label) old new s
-IsImageAfter (Some Run) bytes old new s = IsRunImage (IsScriptOf bytes) old new s
-IsImageAfter (Some RunRebuild) bytes old new s = IsRunRebuildImage (IsScriptOf bytes) old new s
-IsImageAfter (Some (Soak n)) bytes old new s = IsRunImage (IsSoakOf n) old new s
-IsImageAfter (Some Analyze) bytes old new s = new ≡ old
-IsImageAfter (Some Rebuild) bytes old new s = IsRebuildImage old new s
-IsImageAfter (Some Repair) bytes old new s = IsRepairImage old new s
-IsImageAfter (Some (Records n seq)) bytes old new s = new ≡ old
-IsImageAfter (Some (Store n seq)) bytes old new s = IsStoreImage n seq (lines_of bytes) old new s
-IsImageAfter None bytes old new s = new ≡ old
+abbrev pub IsImageAfter : Option Wanted → List ℕ → ℕ → ℕ → List Block → List Block → Status → Type 0
+IsImageAfter (Some (Init cluster files label)) bytes had has old new s = IsFormatted (home_of cluster files label) old new s
+IsImageAfter (Some Run) bytes had has old new s = IsRunImage (IsScriptOf bytes) had has old new s
+IsImageAfter (Some RunRebuild) bytes had has old new s = IsRunRebuildImage (IsScriptOf bytes) had has old new s
+IsImageAfter (Some (Soak n)) bytes had has old new s = IsRunImage (IsSoakOf n) had has old new s
+IsImageAfter (Some Analyze) bytes had has old new s = new ≡ old
+IsImageAfter (Some Rebuild) bytes had has old new s = IsRebuildImage old new s
+IsImageAfter (Some Repair) bytes had has old new s = IsRepairImage old new s
+IsImageAfter (Some (Records n seq)) bytes had has old new s = new ≡ old
+IsImageAfter (Some (Store n seq)) bytes had has old new s = IsStoreImage n seq (lines_of bytes) old new s
+IsImageAfter None bytes had has old new s = new ≡ old

@@ -62,7 +62,7 @@ IsRepairDue size bs s = ⊥
 unfoldable pub repair_text : Repaired → List ℕ
 repair_text done = codes "repaired: " ++ (decimal done.slots ++ (codes " slots freed\n" ++ mending_text done.mended))
 
--- the new blocks are the repaired volume, and keep every sound file of the old ones, unless mending leaves it out
+-- the new blocks are the repaired volume, and keep every sound file of the old ones, except a marked one and one that mending leaves out
 pub record IsRepairedImage (old new : List Block) : Type 0 where
   pub done : Repaired
   pub repaired : IsRepaired old new done
@@ -73,7 +73,7 @@ pub record IsRepairText (old new : List Block) (text : List ℕ) : Type 0 where
   pub image : IsRepairedImage old new
   pub written : text ≡ repair_text image.done
 
--- The new blocks keep every sound file of the old ones, or mending leaves it out. If something of these is beyond repair, they are the
+-- The new blocks keep every sound file of the old ones, except a marked one and one that mending leaves out. If something of these is beyond repair, they are the
 -- old ones.
 pub record IsStillToRepair (old new : List Block) : Type 0 where
   pub keeps : Keeps old new

@@ -1,3 +1,5 @@
+//! The job `analyze`: what is found in the volume of an image.
+
 ghost use Rattle.std.specs.Prelude.{◌≡◌, IfOk, IfErr, length};
 ghost use Rattle.blk_drive.specs.Images.{IsInside};
 ghost use Rattle.vol_parts.specs.Findings.{AreFindings};

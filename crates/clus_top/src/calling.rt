@@ -1,3 +1,5 @@
+//! The top call for a program, with the number of its status as an exit code.
+
 ghost use Rattle.std.specs.Prelude.{map, string_bytes};
 ghost use Rattle.std.specs.Process.{exit_status};
 ghost use Rattle.clus_top.specs.Calls.{IsEnd};
@@ -25,9 +27,10 @@ pub fn exit_call<I: ImageDev, T: TextIn, O: TextOut>(
       written = O.written out.old;
       script_faults = T.faults script.old;
       image_faults = I.faults image;
+      image_lost = I.lost image;
       out_faults = O.faults out.old;
     })
-        (O.written out.new) (I.told result.image) (T.faults script.new) (I.faults result.image) (O.faults out.new) (exit_status result.code) }
+        (O.written out.new) (I.told result.image) (T.faults script.new) (I.faults result.image) (I.lost result.image) (O.faults out.new) (exit_status result.code) }
 {
     match words_of(alloc, line) {
         Ok(words) => {

@@ -1,3 +1,5 @@
+//! The program over real files: it opens image and script, and makes the top call.
+
 use crate::calling::exit_call;
 use blk_drive::{ImageDev, MemImage};
 use edge_files::{Access, Held, LockFile, SafeOut, image_at, line_of};
@@ -5,6 +7,7 @@ use fx_text::{StdIn, StdOut, TextIn};
 use plain_cat::NoMemory;
 use run_engine::{Called, no_memory};
 use std::fs::OpenFile;
+use std::os::unix::fs::FileExt;
 use std::process::ExitCode;
 use std::rt::{Env, Files};
 use std::{fs, io};
@@ -35,7 +38,7 @@ fn called<R: Print + AllocGlobal, I: ImageDev, F: OpenFile + Drop, T: TextIn>(
 // Opens image and script, of which `-` is standard input, and makes the call. With fewer than two words it has no words and no blocks.
 fn opened<R: Env + Files + Input + Print + AllocGlobal>(rt: &R) -> Result<ExitCode, NoMemory>
 where
-    R::File: LockFile,
+    R::File: FileExt + LockFile,
 {
     let line = line_of(rt)?;
     match line.as_slice() {
@@ -60,7 +63,7 @@ where
 /// The program: its first word is the path of the image, its second that of the script, and the rest are the words of the call.
 pub fn run<R: Env + Files + Input + Print + AllocGlobal>(rt: &R) -> ExitCode
 where
-    R::File: LockFile,
+    R::File: FileExt + LockFile,
 {
     match opened(rt) {
         Ok(code) => code,

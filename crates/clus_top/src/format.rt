@@ -1,3 +1,5 @@
+//! The job `init`: a fresh volume on an image, and what is said of it.
+
 ghost use Rattle.std.specs.Prelude.{◌≡◌, ◌≤◌, ◌++◌, ◌-◌, length, OnOk, IfOk, IfErr};
 ghost use Rattle.vol_init.specs.Layouts.{IsLayout, reserved_clusters, total};
 ghost use Rattle.vol_init.specs.Refusals.{home_of};

@@ -1,3 +1,5 @@
+//! The job `rebuild`: the volume of an image is mended, and the line of what was done.
+
 ghost use Rattle.std.specs.Prelude.{◌≡◌, IfErr, IfOk, length};
 ghost use Rattle.blk_drive.specs.Images.{IsInside};
 ghost use Rattle.blk_drive.specs.Telling.{IsTold as Shows};

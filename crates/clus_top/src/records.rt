@@ -1,3 +1,5 @@
+//! The job `records`: the records of a file of an accepted volume, as text.
+
 ghost use Rattle.std.specs.Prelude.{◌≡◌, ◌+◌, ◌≤◌, All, List, Some, Ok, IfErr, IfOk, OnOk, length};
 ghost use Rattle.blk_drive.specs.Images.{IsInside};
 ghost use Rattle.vol_parts.specs.Findings.{Accepts, Weak};

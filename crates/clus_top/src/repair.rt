@@ -1,3 +1,5 @@
+//! The job `repair`: a damaged volume is repaired, and the lines of what was done.
+
 ghost use Rattle.std.specs.Prelude.{◌≡◌, IfErr, IfOk, length};
 ghost use Rattle.blk_drive.specs.Images.{IsInside};
 ghost use Rattle.blk_drive.specs.Telling.{IsTold as Shows};

@@ -1,3 +1,5 @@
+//! The jobs `run` and `soak`: a script is run on an image, for its report or its summary.
+
 ghost use Rattle.std.specs.Prelude.{◌≡◌, ◌≤◌, IfOk, IfErr};
 ghost use Rattle.plain_cat.specs.declared.cat.Cat.{Cat};
 ghost use Rattle.plain_cat.specs.InForm.{InForm};
@@ -119,7 +121,7 @@ fn run_image<I: ImageDev>(alloc: Global, image: I, script: &Script, what: Printe
     ensures inside { IfOk result.outcome (λ text. IsInside (I.size image)) }
     ensures report { IfOk result.outcome (λ text. OfImage (I.size image) (I.told image) (I.told result.image) (λ old new. IsEndIn what script.now old new text.items)) }
     ensures end { IfErr result.outcome (λ s. OfImage (I.size image) (I.told image) (I.told result.image)
-        (λ old new. IsImageStop script.now (I.size image) old new (I.faults image) (I.faults result.image) s)) }
+        (λ old new. IsImageStop script.now (I.size image) old new (I.faults image) (I.faults result.image) (I.lost image) (I.lost result.image) s)) }
 {
     match Mirror::load(alloc, image) {
         Ok(mirror) => run_mounted(alloc, mirror, script, what),
@@ -135,7 +137,7 @@ pub fn run_script<I: ImageDev, T: TextIn>(alloc: Global, image: I, script: &mut 
     ensures report { IfOk result.outcome (λ text. OfScript (T.left script.old) (λ bytes. OfImage (I.size image) (I.told image) (I.told result.image)
         (λ old new. IsReported bytes (I.size image) old new text.items))) }
     ensures end { IfErr result.outcome (λ s. OfScript (T.left script.old) (λ bytes. OfImage (I.size image) (I.told image) (I.told result.image)
-        (λ old new. IsRunStop bytes (I.size image) old new (T.faults script.old) (T.faults script.new) (I.faults image) (I.faults result.image) s))) }
+        (λ old new. IsRunStop bytes (I.size image) old new (T.faults script.old) (T.faults script.new) (I.faults image) (I.faults result.image) (I.lost image) (I.lost result.image) s))) }
 {
     match script_of(alloc, script) {
         Ok(spelt) => run_image(alloc, image, &spelt, Printed::Report),
@@ -151,7 +153,7 @@ pub fn run_soak<I: ImageDev>(alloc: Global, image: I, n: u32) -> Ran<I>
     requires { n ≤ 256 }
     ensures summary { IfOk result.outcome (λ text. OfImage (I.size image) (I.told image) (I.told result.image) (λ old new. IsSummarized n (I.size image) old new text.items)) }
     ensures end { IfErr result.outcome (λ s. OfImage (I.size image) (I.told image) (I.told result.image)
-        (λ old new. IsSoakStop n (I.size image) old new (I.faults image) (I.faults result.image) s)) }
+        (λ old new. IsSoakStop n (I.size image) old new (I.faults image) (I.faults result.image) (I.lost image) (I.lost result.image) s)) }
 {
     match soak(alloc, n) {
         Ok(drawn) => run_image(alloc, image, &drawn, Printed::Summary(n)),

@@ -1,3 +1,5 @@
+//! The job `run --rebuild`: a script is run on an image, which is mended then.
+
 ghost use Rattle.std.specs.Prelude.{◌≡◌, IfErr, IfOk};
 ghost use Rattle.plain_cat.specs.InForm.{InForm};
 ghost use Rattle.blk_drive.specs.Telling.{IsTold};
@@ -66,7 +68,7 @@ fn mend_image<I: ImageDev>(alloc: Global, image: I, script: &Script) -> MendedRu
     ensures inside { IfOk result.outcome (λ text. IsInside (I.size image)) }
     ensures report { IfOk result.outcome (λ text. OfImage (I.size image) (I.told image) (I.told result.image) (λ old new. IsMendedIn script.now old new text.items)) }
     ensures halt { IfErr result.outcome (λ h. OfImage (I.size image) (I.told image) (I.told result.image)
-        (λ old new. IsImageHalt script.now (I.size image) old new (I.faults image) (I.faults result.image) h)) }
+        (λ old new. IsImageHalt script.now (I.size image) old new (I.faults image) (I.faults result.image) (I.lost image) (I.lost result.image) h)) }
 {
     match Mirror::load(alloc, image) {
         Ok(mirror) => mend_mounted(alloc, mirror, script),
@@ -82,7 +84,7 @@ pub fn run_and_mend<I: ImageDev, T: TextIn>(alloc: Global, image: I, script: &mu
     ensures report { IfOk result.outcome (λ text. OfScript (T.left script.old) (λ bytes. OfImage (I.size image) (I.told image) (I.told result.image)
         (λ old new. IsMendedWith bytes (I.size image) old new text.items))) }
     ensures halt { IfErr result.outcome (λ h. OfScript (T.left script.old) (λ bytes. OfImage (I.size image) (I.told image) (I.told result.image)
-        (λ old new. IsRunHalt bytes (I.size image) old new (T.faults script.old) (T.faults script.new) (I.faults image) (I.faults result.image) h))) }
+        (λ old new. IsRunHalt bytes (I.size image) old new (T.faults script.old) (T.faults script.new) (I.faults image) (I.faults result.image) (I.lost image) (I.lost result.image) h))) }
 {
     match script_of(alloc, script) {
         Ok(spelt) => mend_image(alloc, image, &spelt),

@@ -1,3 +1,5 @@
+//! The job `store`: the lines of a text are stored as records in a file.
+
 ghost use Rattle.std.specs.Prelude.{◌≡◌, None, IfOk, IfErr, OnOk, length};
 ghost use Rattle.blk_drive.specs.Images.{IsInside};
 ghost use Rattle.blk_drive.specs.Telling.{IsTold as Shows};

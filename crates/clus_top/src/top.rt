@@ -1,3 +1,5 @@
+//! The top call: each job with its output, its status and the image. Its contract is the theorem of this project.
+
 ghost use Rattle.std.specs.Prelude.{◌≡◌, ◌≤◌, ℕ, List, Some};
 ghost use Rattle.base_words.specs.Faults.{Rose};
 ghost use Rattle.base_words.specs.Fields.{Block};
@@ -11,13 +13,13 @@ ghost use Rattle.clus_top.specs.Words.{Run, RunRebuild, Soak, Analyze, Rebuild a
 
 use crate::analysis::{Analysis, analyze_image};
 use crate::format::{Format, init_image};
+use crate::laws::{good_runs_are_answered, no_other_status_is_due};
 use crate::rebuild::{Rebuild, mend_image};
 use crate::records::{Reading, read_records};
 use crate::repair::{Repair, repair_image};
 use crate::run_job::{Ran, run_script, run_soak};
 use crate::run_rebuild::run_and_mend;
 use crate::store::{Stored, store_text};
-use crate::theorems::{good_runs_are_answered, no_other_status_is_due};
 use crate::words::{Job, job_of};
 use blk_drive::ImageDev;
 use fx_text::{TextIn, TextOut, Word};
@@ -34,7 +36,7 @@ fn run<I: ImageDev, T: TextIn, O: TextOut>(
 ) -> Finished<I>
     ensures { OfScript (T.left script.old) (λ bytes. OfImage (I.size image) (I.told image) (I.told result.image) (λ old new.
         IsAnswer (Some Run) bytes (I.size image) old new (O.written out.old) (O.written out.new)
-        (T.faults script.old) (T.faults script.new) (I.faults image) (I.faults result.image) (O.faults out.old) (O.faults out.new) result.status)) }
+        (T.faults script.old) (T.faults script.new) (I.faults image) (I.faults result.image) (I.lost image) (I.lost result.image) (O.faults out.old) (O.faults out.new) result.status)) }
 {
     let Ran { outcome, image } = run_script(alloc, image, script);
     match outcome {
@@ -58,7 +60,7 @@ fn run_rebuild<I: ImageDev, T: TextIn, O: TextOut>(
 ) -> Finished<I>
     ensures { OfScript (T.left script.old) (λ bytes. OfImage (I.size image) (I.told image) (I.told result.image) (λ old new.
         IsAnswer (Some RunRebuild) bytes (I.size image) old new (O.written out.old) (O.written out.new)
-        (T.faults script.old) (T.faults script.new) (I.faults image) (I.faults result.image) (O.faults out.old) (O.faults out.new) result.status)) }
+        (T.faults script.old) (T.faults script.new) (I.faults image) (I.faults result.image) (I.lost image) (I.lost result.image) (O.faults out.old) (O.faults out.new) result.status)) }
 {
     let MendedRun { outcome, image } = run_and_mend(alloc, image, script);
     match outcome {
@@ -78,7 +80,7 @@ fn soak<I: ImageDev, O: TextOut>(alloc: Global, image: I, n: u32, out: &mut O) -
     requires { n ≤ 256 }
     ensures { (bytes : List ℕ) (faults : ℕ) → OfImage (I.size image) (I.told image) (I.told result.image) (λ old new.
         IsAnswer (Some (Soak n)) bytes (I.size image) old new (O.written out.old) (O.written out.new)
-        faults faults (I.faults image) (I.faults result.image) (O.faults out.old) (O.faults out.new) result.status) }
+        faults faults (I.faults image) (I.faults result.image) (I.lost image) (I.lost result.image) (O.faults out.old) (O.faults out.new) result.status) }
 {
     let Ran { outcome, image } = run_soak(alloc, image, n);
     match outcome {
@@ -110,7 +112,7 @@ fn tell_found<O: TextOut>(alloc: Global, out: &mut O, findings: &[Finding]) -> S
 fn analyze<I: ImageDev, O: TextOut>(alloc: Global, image: I, out: &mut O) -> Finished<I>
     ensures { (bytes : List ℕ) (faults : ℕ) → OfImage (I.size image) (I.told image) (I.told result.image) (λ old new.
         IsAnswer (Some Analyze) bytes (I.size image) old new (O.written out.old) (O.written out.new)
-        faults faults (I.faults image) (I.faults result.image) (O.faults out.old) (O.faults out.new) result.status) }
+        faults faults (I.faults image) (I.faults result.image) (I.lost image) (I.lost result.image) (O.faults out.old) (O.faults out.new) result.status) }
 {
     let Analysis { outcome, image } = analyze_image(alloc, image);
     match outcome {
@@ -129,7 +131,7 @@ fn analyze<I: ImageDev, O: TextOut>(alloc: Global, image: I, out: &mut O) -> Fin
 fn rebuild<I: ImageDev, O: TextOut>(alloc: Global, image: I, out: &mut O) -> Finished<I>
     ensures { (bytes : List ℕ) (faults : ℕ) → OfImage (I.size image) (I.told image) (I.told result.image) (λ old new.
         IsAnswer (Some Mending) bytes (I.size image) old new (O.written out.old) (O.written out.new)
-        faults faults (I.faults image) (I.faults result.image) (O.faults out.old) (O.faults out.new) result.status) }
+        faults faults (I.faults image) (I.faults result.image) (I.lost image) (I.lost result.image) (O.faults out.old) (O.faults out.new) result.status) }
 {
     let Rebuild { outcome, image } = mend_image(alloc, image);
     match outcome {
@@ -148,7 +150,7 @@ fn rebuild<I: ImageDev, O: TextOut>(alloc: Global, image: I, out: &mut O) -> Fin
 fn repair<I: ImageDev, O: TextOut>(alloc: Global, image: I, out: &mut O) -> Finished<I>
     ensures { (bytes : List ℕ) (faults : ℕ) → OfImage (I.size image) (I.told image) (I.told result.image) (λ old new.
         IsAnswer (Some Repairing) bytes (I.size image) old new (O.written out.old) (O.written out.new)
-        faults faults (I.faults image) (I.faults result.image) (O.faults out.old) (O.faults out.new) result.status) }
+        faults faults (I.faults image) (I.faults result.image) (I.lost image) (I.lost result.image) (O.faults out.old) (O.faults out.new) result.status) }
 {
     let Repair { outcome, image } = repair_image(alloc, image);
     match outcome {
@@ -173,7 +175,7 @@ fn records<I: ImageDev, O: TextOut>(
 ) -> Finished<I>
     ensures { (bytes : List ℕ) (faults : ℕ) → OfImage (I.size image) (I.told image) (I.told result.image) (λ old new.
         IsAnswer (Some (Records file seq)) bytes (I.size image) old new (O.written out.old) (O.written out.new)
-        faults faults (I.faults image) (I.faults result.image) (O.faults out.old) (O.faults out.new) result.status) }
+        faults faults (I.faults image) (I.faults result.image) (I.lost image) (I.lost result.image) (O.faults out.old) (O.faults out.new) result.status) }
 {
     let Reading { outcome, image } = read_records(alloc, image, file, seq);
     match outcome {
@@ -199,7 +201,7 @@ fn store<I: ImageDev, T: TextIn, O: TextOut>(
 ) -> Finished<I>
     ensures { OfScript (T.left script.old) (λ bytes. OfImage (I.size image) (I.told image) (I.told result.image) (λ old new.
         IsAnswer (Some (Store file seq)) bytes (I.size image) old new (O.written out.old) (O.written out.new)
-        (T.faults script.old) (T.faults script.new) (I.faults image) (I.faults result.image) (O.faults out.old) (O.faults out.new) result.status)) }
+        (T.faults script.old) (T.faults script.new) (I.faults image) (I.faults result.image) (I.lost image) (I.lost result.image) (O.faults out.old) (O.faults out.new) result.status)) }
 {
     let Stored { outcome, image } = store_text(alloc, image, file, seq, script);
     match outcome {
@@ -225,7 +227,7 @@ fn init<I: ImageDev, O: TextOut>(
 ) -> Finished<I>
     ensures { (bytes : List ℕ) (faults : ℕ) → OfImage (I.size image) (I.told image) (I.told result.image) (λ old new.
         IsAnswer (Some (Init cluster files label.now)) bytes (I.size image) old new (O.written out.old) (O.written out.new)
-        faults faults (I.faults image) (I.faults result.image) (O.faults out.old) (O.faults out.new) result.status) }
+        faults faults (I.faults image) (I.faults result.image) (I.lost image) (I.lost result.image) (O.faults out.old) (O.faults out.new) result.status) }
 {
     let Format { outcome, image } = init_image(alloc, image, cluster, files, label);
     match outcome {
@@ -250,7 +252,7 @@ fn done<I: ImageDev, T: TextIn, O: TextOut>(
 ) -> Finished<I>
     ensures { OfScript (T.left script.old) (λ bytes. OfImage (I.size image) (I.told image) (I.told result.image) (λ old new.
         IsAnswer (wanted_by words.now) bytes (I.size image) old new (O.written out.old) (O.written out.new)
-        (T.faults script.old) (T.faults script.new) (I.faults image) (I.faults result.image) (O.faults out.old) (O.faults out.new) result.status)) }
+        (T.faults script.old) (T.faults script.new) (I.faults image) (I.faults result.image) (I.lost image) (I.lost result.image) (O.faults out.old) (O.faults out.new) result.status)) }
 {
     match job_of(words) {
         Some(Job::Run) => run(alloc, image, script, out),
@@ -286,7 +288,7 @@ fn done<I: ImageDev, T: TextIn, O: TextOut>(
 /// line: how many of them were carried out and how many refused, how many blocks the nodes read and how many they found in their caches,
 /// and the free clusters. `analyze` prints what is found in a volume. `rebuild` mends a volume that has no fatal finding, and prints what it
 /// did; what it leaves where it is stopped mends to the same. `repair` makes an accepted volume of one that cannot be mended, if nothing is beyond
-/// repair: it keeps every sound file, frees what is broken or shared, and prints how many header slots it freed and what mending did
+/// repair: it keeps every sound file, except one that is marked for delete and an empty lost one without room, frees what is broken or shared, and prints how many header slots it freed and what mending did
 /// then; a repair that is stopped can be made again. `records N S` prints the variable-length records of the file of number N and
 /// sequence S on a volume in which nothing is found, a line for each, and how many there are; it changes nothing. `store N S` reads a text of at
 /// most 1,048,576 bytes and stores its lines, each of at most 32,767 bytes, as variable-length records in the file of number N and sequence
@@ -305,11 +307,11 @@ pub fn vmsclus<I: ImageDev, T: TextIn, O: TextOut>(
 ) -> Finished<I>
     // There are bytes of a script, blocks of an image, as many as it has, and blocks that it has then, of which all of `IsCall` holds
     // together: what the status says of what came in, when a fault comes, what was written, which blocks are left, that no other status was
-    // due if this one is no fault and no want of memory, and that a good script is answered but for these. If the source or the image tells its content, they are these. If it does not, as a file, no
-    // contract says which they are.
+    // due if this one is no fault and no want of memory, and that a good script is answered but for these. If the script or the image reports its content, they are these: the image of a
+    // program does (`FileImage` of `blk_files`). If it does not, no contract says which they are.
     ensures { OfScript (T.left script.old) (λ bytes. OfImage (I.size image) (I.told image) (I.told result.image) (λ old new.
         IsCall (wanted_by words.now) bytes (I.size image) old new (O.written out.old) (O.written out.new)
-        (T.faults script.old) (T.faults script.new) (I.faults image) (I.faults result.image) (O.faults out.old) (O.faults out.new) result.status)) }
+        (T.faults script.old) (T.faults script.new) (I.faults image) (I.faults result.image) (I.lost image) (I.lost result.image) (O.faults out.old) (O.faults out.new) result.status)) }
 {
     no_other_status_is_due();
     good_runs_are_answered();

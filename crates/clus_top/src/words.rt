@@ -1,3 +1,5 @@
+//! The words of a call, and the job that they ask for.
+
 ghost use Rattle.std.specs.Prelude.{◌≡◌, ◌-◌, ◌≤◌, true, Some, None, IfSome, option_map, if◌then◌else◌};
 ghost use Rattle.std.specs.List.{list_all};
 ghost use Rattle.clus_top.specs.Words.{wanted, is_soak, is_seq, is_digit, value_of, number, named, soaked, paired, storing, recorded, formatted, wanted_by, IsWithinLimits};

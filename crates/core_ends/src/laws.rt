@@ -1,3 +1,5 @@
+//! Laws of progress: a run ends, after as many turns as its script and its nodes allow.
+
 ghost use Rattle.core_ends.specs.Moving.{SomebodyMoves};
 ghost use Rattle.core_ends.specs.Measure.{TurnsLeaveLess, StepsLeaveLess, LittleIsLeft};
 ghost use Rattle.core_ends.specs.Turns.{TurnsAreEnough, StepsTakeOne, NoneIsLeft};

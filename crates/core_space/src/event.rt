@@ -1,3 +1,5 @@
+//! The events of a node's rules for free space.
+
 use crate::run::Phase;
 use base_words::Block;
 use lock_db::LockName;

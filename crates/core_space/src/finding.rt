@@ -1,3 +1,5 @@
+//! The search for free clusters and a free file number in the bitmaps that a node has looked at.
+
 ghost use Rattle.std.specs.Prelude.{◌≡◌, ◌+◌, IfOk, length};
 ghost use Rattle.vol_parts.specs.Parts.{IsGeometry, storage_blocks};
 ghost use Rattle.vol_parts.specs.declared.geometry.Part.TheVariants.{Storage};

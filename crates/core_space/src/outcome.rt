@@ -1,3 +1,5 @@
+//! What a search for free space comes to.
+
 use op_law::Writes;
 use plain_cat::Refusal;
 

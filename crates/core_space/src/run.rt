@@ -1,3 +1,5 @@
+//! How far a node has come by its rules for free space, and the locks that it holds for them.
+
 ghost use Rattle.std.specs.Prelude.{◌≡◌};
 ghost use Rattle.core_space.specs.Rule.{no_run};
 

@@ -51,10 +51,10 @@ use Rattle.vol_under.specs.Guards.{guard_of}
 use Rattle.vol_under.specs.Under.{IsUnder}
 use Rattle.vol_under.proofs.Guarding.{wider_write}
 use Rattle.vol_under.proofs.Nodes.{changed_here}
-use Rattle.core_cached.specs.Committed.{IsUnderOn, of_it}
-use Rattle.core_cached.specs.Staying.{IsGuarded, IsFreedBy}
-use Rattle.core_cached.proofs.Committed.{alike_on}
-use Rattle.core_cached.proofs.Heads.{guarded_or_freed}
+use Rattle.core_state.specs.Committed.{IsUnderOn, of_it}
+use Rattle.core_state.specs.Staying.{IsGuarded, IsFreedBy}
+use Rattle.core_state.proofs.Committed.{alike_on}
+use Rattle.core_state.proofs.Heads.{guarded_or_freed}
 use Rattle.op_law.specs.declared.need.Need.TheVariants as need
 use Rattle.op_law.specs.declared.need.Plan.{Plan}
 use Rattle.op_law.specs.declared.need.PlanWrite.{PlanWrite}

@@ -11,7 +11,7 @@ use Rattle.op_law.proofs.Going.{seen_goes_on}
 use Rattle.base_words.specs.Lists.{Has}
 use Rattle.vol_spell.specs.Owners.{Things, nothing, Outs}
 use Rattle.vol_under.specs.UnderWay.{UnderWay, changed, AreSole}
-use Rattle.core_cached.specs.Committed.{IsUnderOn}
+use Rattle.core_state.specs.Committed.{IsUnderOn}
 use Rattle.node_cache.specs.Cached.{Cached}
 use Rattle.op_law.specs.Fits.{things}
 use Rattle.op_law.specs.Going.{GoesOn}

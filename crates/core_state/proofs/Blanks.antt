@@ -19,7 +19,7 @@ use Rattle.vol_under.specs.UnderWay.{bare}
 use Rattle.vol_under.specs.Keeping.{IsBitmap}
 use Rattle.op_law.specs.declared.need.PlanWrite.{PlanWrite}
 use Rattle.op_law.specs.Laws.{planned, MayFill, Empty, OfFile, Given, LeavesSlots}
-use Rattle.core_cached.proofs.Heads.{head_after}
+use Rattle.core_state.proofs.Heads.{head_after}
 
 -- ---- nothing is outside
 

@@ -30,7 +30,7 @@ use Rattle.core_state.specs.Stores.{AreKept, HasStore, IsTrue, IsCachedAt}
 use Rattle.core_state.proofs.CachedEvents.{has_kept, has_used, has_replaced, kept_valid, kept_ahead}
 use Rattle.core_state.proofs.CachedHolders.{holds_to_write}
 use Rattle.core_state.proofs.Naming.{from_without}
-use Rattle.core_cached.proofs.Heads.{guard_lock}
+use Rattle.core_state.proofs.Heads.{guard_lock}
 
 no_guard : (name : LockName) → None ≡ Some (Lock name) → ⊥
 no_guard name e = absurd (cc)

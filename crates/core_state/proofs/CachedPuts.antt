@@ -28,7 +28,7 @@ use Rattle.core_state.proofs.Cached.{same_state, written_by, valid_at, Goes, Sta
 use Rattle.core_state.proofs.CachedWrites.{raises_under, write_raises, part_raise_more, both_true}
 use Rattle.core_state.proofs.CachedEvents.{all_cached, has_replaced, written_anew, since_is_true}
 use Rattle.core_state.proofs.CachedUses.{unwritten_read, sole_writer, same_nat}
-use Rattle.core_cached.proofs.Heads.{guard_lock, no_stock}
+use Rattle.core_state.proofs.Heads.{guard_lock, no_stock}
 use Rattle.core_space.proofs.Ways.{is_at_most}
 use Rattle.base_words.proofs.Booleans.{nat_same, at_most}
 use Rattle.op_law.proofs.Asking.{parted}

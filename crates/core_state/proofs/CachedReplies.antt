@@ -19,7 +19,7 @@ use Rattle.node_locks.specs.Sequences.{raised_block, guards_blocks}
 use Rattle.node_locks.proofs.Keeping.{rows_go_on}
 use Rattle.node_cache.specs.Cached.{Cached}
 use Rattle.op_law.specs.declared.need.PlanWrite.{PlanWrite}
-use Rattle.core_cached.specs.Staying.{IsGuarded, IsFreedBy}
+use Rattle.core_state.specs.Staying.{IsGuarded, IsFreedBy}
 use Rattle.core_state.specs.Worlds.{NodeState, Plain, node_at, set_node, rows_of, rows_in, rows_at}
 use Rattle.core_state.specs.Raises.{raise_of}
 use Rattle.core_state.specs.Small.{AllGoOn}

@@ -13,7 +13,7 @@ use Rattle.vol_parts.specs.declared.geometry.Geometry.{Geometry}
 use Rattle.vol_spell.specs.Reading.{header_place}
 use Rattle.node_cache.specs.Cached.{Cached}
 use Rattle.op_law.specs.declared.need.PlanWrite.{PlanWrite}
-use Rattle.core_cached.specs.Staying.{IsGuarded, IsFreedBy}
+use Rattle.core_state.specs.Staying.{IsGuarded, IsFreedBy}
 use Rattle.core_state.specs.Worlds.{NodeState, Plain}
 use Rattle.core_state.specs.Raises.{is_first_part, is_under, is_free_head, writes_first, frees}
 use Rattle.core_state.specs.Stores.{hold_writes, part_raise, IsTrue}

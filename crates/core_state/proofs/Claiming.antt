@@ -14,7 +14,7 @@ use Rattle.node_locks.specs.Taking.{taken}
 use Rattle.node_locks.proofs.Keeping.{held_are_granted, rows_stand_still}
 use Rattle.base_words.specs.Lists.{Has}
 use Rattle.vol_spell.specs.Owners.{Owners}
-use Rattle.core_cached.specs.Committed.{IsUnderOn}
+use Rattle.core_state.specs.Committed.{IsUnderOn}
 use Rattle.vol_under.specs.UnderWay.{UnderWay, changed, AreSole}
 use Rattle.op_law.specs.Laws.{held_in}
 use Rattle.core_space.specs.declared.run.Phase.{Phase}

@@ -14,8 +14,8 @@ use Rattle.vol_under.specs.Guards.{guard_of, MayLook, IsCommandMove}
 use Rattle.vol_under.specs.UnderWay.{UnderWay, changed, AreSole}
 use Rattle.vol_under.specs.Under.{IsLawful, IsUnder}
 use Rattle.vol_under.specs.Answering.{IsReply}
-use Rattle.core_cached.specs.Committed.{IsUnderOn, on_its_own}
-use Rattle.core_cached.proofs.Committed.{quiet_on}
+use Rattle.core_state.specs.Committed.{IsUnderOn, on_its_own}
+use Rattle.core_state.proofs.Committed.{quiet_on}
 use Rattle.vol_under.proofs.Steps.{held_stands}
 use Rattle.vol_under.proofs.Guarding.{wider_command, wider_write, wider_look}
 use Rattle.vol_under.proofs.Nodes.{done_in, no_writes}

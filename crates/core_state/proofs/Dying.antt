@@ -60,10 +60,10 @@ use Rattle.op_law.specs.Fits.{things}
 use Rattle.op_law.specs.Knows.{has_channel}
 use Rattle.op_law.specs.Laws.{held_in, planned}
 use Rattle.plain_cat.specs.declared.mode.Mode.TheVariants.{PW}
-use Rattle.core_cached.specs.Staying.{IsGuarded, IsFreedBy}
-use Rattle.core_cached.specs.Committed.{IsUnderOn, on_its_own}
-use Rattle.core_cached.proofs.Guarded.{deaths_stay}
-use Rattle.core_cached.proofs.Heads.{guarded_or_freed}
+use Rattle.core_state.specs.Staying.{IsGuarded, IsFreedBy}
+use Rattle.core_state.specs.Committed.{IsUnderOn, on_its_own}
+use Rattle.core_state.proofs.Guarded.{deaths_stay}
+use Rattle.core_state.proofs.Heads.{guarded_or_freed}
 use Rattle.core_state.specs.Worlds.{NodeState, Plain, node_at, set_node, rows_of, rows_in, rows_at}
 use Rattle.core_state.specs.Asks.{writes_now}
 use Rattle.core_state.specs.Opens.{is_channel, open_of, open_with, asked_in, asked_at, open_now, open_stands, AreOpensLocked}

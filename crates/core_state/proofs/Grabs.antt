@@ -50,8 +50,8 @@ use Rattle.core_state.specs.Stores.{hold_writes, HasStore, IsStocked, HasFewNumb
 use Rattle.core_state.specs.Goods.{under_with, nodes_under, IsAt, IsNode, Good, held_by}
 use Rattle.core_state.specs.Events.{turned, ready_left, given_by, stocked_by, is_last, space_writing, caching, cache_written}
 use Rattle.base_words.specs.Faults.{next as one_more}
-use Rattle.core_cached.specs.Committed.{IsUnderOn}
-use Rattle.core_cached.proofs.Guarded.{spaces_stay}
+use Rattle.core_state.specs.Committed.{IsUnderOn}
+use Rattle.core_state.proofs.Guarded.{spaces_stay}
 use Rattle.node_cache.specs.Cached.{Cached}
 use Rattle.core_state.proofs.StockSizes.{few_stays, few_left, few_none}
 use Rattle.core_state.proofs.CachedPuts.{IsWriteOf, put_cached, put_writes}

@@ -11,7 +11,7 @@ use Rattle.plain_rules.specs.Accounts.{Accounted}
 use Rattle.plain_rules.specs.Replaying.{Replays}
 use Rattle.vol_spell.specs.Owners.{Owners}
 use Rattle.vol_spell.specs.Spelling.{AreBlank}
-use Rattle.core_cached.specs.Committed.{IsUnderOn, of_it}
+use Rattle.core_state.specs.Committed.{IsUnderOn, of_it}
 use Rattle.plain_cat.specs.declared.history.Entry.{Entry}
 use Rattle.plain_rules.specs.Own.{past, command_after, next_command, Own}
 use Rattle.node_locks.specs.Held.{Row, joined, names_of, HoldsItsLocks, AreHeld, waits_at, with_rows}

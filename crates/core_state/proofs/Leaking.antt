@@ -20,8 +20,8 @@ use Rattle.vol_under.proofs.Nodes.{changed_here, each, done_alike}
 use Rattle.vol_under.proofs.Steps.{idle_lawful}
 use Rattle.vol_under.proofs.Endings.{changed_again, dead_spelt}
 use Rattle.vol_under.proofs.Leaking.{outside_may_leak, leaks_count, leaks_flagged, flagged_alike}
-use Rattle.core_cached.specs.Committed.{IsUnderOn}
-use Rattle.core_cached.proofs.Committed.{commit_on}
+use Rattle.core_state.specs.Committed.{IsUnderOn}
+use Rattle.core_state.proofs.Committed.{commit_on}
 
 -- a death leaves the files
 pub same_files : (c : Cat) (n k : ℕ) (ns : List ℕ) → (dead c n k ns).files ≡ c.files

@@ -25,7 +25,7 @@ use Rattle.node_locks.specs.Sequences.{first_sequence, second_sequence}
 use Rattle.base_words.specs.Lists.{Has, Touches}
 use Rattle.vol_spell.specs.Owners.{Owners, nothing}
 use Rattle.base_words.proofs.Listing.{same_or_not, has_parted}
-use Rattle.core_cached.specs.Committed.{IsUnderOn}
+use Rattle.core_state.specs.Committed.{IsUnderOn}
 use Rattle.vol_under.specs.UnderWay.{UnderWay, AreSole}
 use Rattle.op_law.specs.declared.need.PlanWrite.{PlanWrite}
 use Rattle.op_law.specs.Fits.{things}

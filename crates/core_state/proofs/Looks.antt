@@ -35,7 +35,7 @@ use Rattle.core_space.specs.Giving.{give_place, give_writes}
 use Rattle.core_space.specs.Rule.{looks_on, decides, give_by, fill_or_give, fill_by, search_by, decision_in}
 use Rattle.core_state.specs.Worlds.{NodeState, Plain, node_at, with_node, rows_of}
 use Rattle.node_cache.specs.Cached.{Cached}
-use Rattle.core_cached.specs.Committed.{IsUnderOn}
+use Rattle.core_state.specs.Committed.{IsUnderOn}
 use Rattle.core_state.specs.Asks.{is_claiming, writes_now}
 use Rattle.core_state.specs.Small.{lent, owed_in, owed}
 use Rattle.core_state.specs.Stocks.{roomless, things_in, unwritten, taken_in, taken_by, stock_now, looked_now}

@@ -23,7 +23,7 @@ use Rattle.vol_spell.specs.Owners.{Owners, Things, nothing, Outs}
 use Rattle.base_words.proofs.Listing.{has_parted, has_first, has_second}
 use Rattle.vol_parts.specs.declared.geometry.Geometry.{Geometry}
 use Rattle.vol_under.specs.UnderWay.{UnderWay, together, changed, AreSole}
-use Rattle.core_cached.specs.Committed.{IsUnderOn}
+use Rattle.core_state.specs.Committed.{IsUnderOn}
 use Rattle.vol_under.specs.Keeping.{IsBitmap}
 use Rattle.op_law.specs.declared.need.PlanWrite.{PlanWrite}
 use Rattle.op_law.specs.Fits.{things}

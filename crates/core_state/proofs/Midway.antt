@@ -28,8 +28,8 @@ use Rattle.op_law.specs.Knows.{knows, is_granted}
 use Rattle.op_law.specs.Laws.{held_in, planned, under_way, IsPlan}
 use Rattle.vol_under.specs.Planned.{IsPlanGuarded}
 use Rattle.vol_under.proofs.Planning.{forget_keeps, lower_keeps}
-use Rattle.core_cached.specs.Committed.{IsUnderOn, on_its_own, of_it}
-use Rattle.core_cached.proofs.Committed.{alike_on, look_on, bits_keep_on}
+use Rattle.core_state.specs.Committed.{IsUnderOn, on_its_own, of_it}
+use Rattle.core_state.proofs.Committed.{alike_on, look_on, bits_keep_on}
 use Rattle.core_state.specs.Worlds.{NodeState, Plain, node_at}
 use Rattle.core_state.specs.Asks.{writes_by, granted_by, own_ask, known_with, knows_now}
 use Rattle.core_state.specs.Stocks.{looked_now}

@@ -14,8 +14,8 @@ use Rattle.base_words.proofs.Listing.{has_parted, has_first, has_second}
 use Rattle.vol_parts.specs.declared.geometry.Geometry.{Geometry}
 use Rattle.vol_spell.specs.Spelling.{AreBlank}
 use Rattle.vol_under.specs.Guards.{Guard, Lock, guard_of, MayLook}
-use Rattle.core_cached.specs.Committed.{IsUnderOn}
-use Rattle.core_cached.proofs.Guarded.{spaces_stay}
+use Rattle.core_state.specs.Committed.{IsUnderOn}
+use Rattle.core_state.proofs.Guarded.{spaces_stay}
 use Rattle.node_cache.specs.Cached.{Cached}
 use Rattle.vol_under.specs.UnderWay.{UnderWay, writes_to, together, changed, AreSole}
 use Rattle.vol_under.specs.Under.{IsUnder}

@@ -18,8 +18,8 @@ use Rattle.vol_spell.specs.Owners.{Owners}
 use Rattle.vol_parts.specs.declared.geometry.Geometry.{Geometry}
 use Rattle.vol_under.specs.UnderWay.{UnderWay, changed, AreSole}
 use Rattle.vol_under.proofs.Nodes.{each, changed_here, changed_else}
-use Rattle.core_cached.specs.Committed.{IsUnderOn, of_it}
-use Rattle.core_cached.proofs.Committed.{alike_on}
+use Rattle.core_state.specs.Committed.{IsUnderOn, of_it}
+use Rattle.core_state.proofs.Committed.{alike_on}
 use Rattle.op_law.specs.Laws.{held_in}
 use Rattle.core_state.specs.Worlds.{NodeState, node_at, set_node, rows_in, rows_at}
 use Rattle.core_state.specs.Stocks.{looked_now, stock_now}

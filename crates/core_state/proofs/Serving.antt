@@ -21,7 +21,7 @@ use Rattle.base_words.proofs.Listing.{has_parted}
 use Rattle.vol_under.specs.Guards.{guard_of, MayLook}
 use Rattle.vol_under.specs.UnderWay.{UnderWay, together, changed}
 use Rattle.vol_under.specs.Under.{IsUnder}
-use Rattle.core_cached.specs.Committed.{IsUnderOn}
+use Rattle.core_state.specs.Committed.{IsUnderOn}
 use Rattle.vol_under.proofs.Guarding.{bitmap_guard}
 use Rattle.vol_under.proofs.Leaking.{number_free}
 use Rattle.vol_under.proofs.Short.{out_alike}

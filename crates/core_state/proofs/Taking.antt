@@ -19,8 +19,8 @@ use Rattle.vol_under.specs.Answering.{IsReply}
 use Rattle.vol_under.specs.Keeping.{Refills, IsBitmap}
 use Rattle.vol_under.proofs.Nodes.{each, changed_here, changed_else, done_in, no_writes}
 use Rattle.vol_under.proofs.Guarding.{wider_write, wider_look}
-use Rattle.core_cached.specs.Committed.{IsUnderOn, on_its_own, of_it}
-use Rattle.core_cached.proofs.Committed.{alike_on, write_on, plan_on, locks_on, answer_on, bits_keep_on}
+use Rattle.core_state.specs.Committed.{IsUnderOn, on_its_own, of_it}
+use Rattle.core_state.proofs.Committed.{alike_on, write_on, plan_on, locks_on, answer_on, bits_keep_on}
 use Rattle.core_state.proofs.Driving.{quiet_keeps, looked_stands, lawful_wider}
 
 -- what a node's answer leaves: its writes are committed, and owners have moved that the command may move

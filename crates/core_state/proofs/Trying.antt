@@ -35,7 +35,7 @@ use Rattle.base_words.proofs.Listing.{same_or_not}
 use Rattle.base_words.proofs.ListWrites.{stands_joined}
 use Rattle.vol_under.specs.Guards.{guard_of}
 use Rattle.vol_under.specs.UnderWay.{UnderWay, changed}
-use Rattle.core_cached.specs.Committed.{IsUnderOn}
+use Rattle.core_state.specs.Committed.{IsUnderOn}
 use Rattle.vol_under.proofs.Guarding.{wider_write}
 use Rattle.op_law.specs.declared.need.Ask.{Ask as PlanAsk}
 use Rattle.op_law.specs.declared.need.Plan.{Plan}

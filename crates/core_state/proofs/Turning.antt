@@ -19,7 +19,7 @@ use Rattle.base_words.specs.Lists.{Has, Touches, StandsIn}
 use Rattle.vol_spell.specs.Owners.{Owners, Things, Outs}
 use Rattle.base_words.proofs.ListWrites.{touches_joined, stands_joined}
 use Rattle.base_words.proofs.Listing.{has_parted, has_first, has_second}
-use Rattle.core_cached.specs.Committed.{IsUnderOn, on_its_own, of_it}
+use Rattle.core_state.specs.Committed.{IsUnderOn, on_its_own, of_it}
 use Rattle.vol_parts.specs.declared.geometry.Geometry.{Geometry}
 use Rattle.vol_spell.specs.Spelling.{Spells}
 use Rattle.vol_under.specs.Guards.{Lock, guard_of, MayWrite, MayLook}

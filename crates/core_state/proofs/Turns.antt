@@ -8,8 +8,8 @@ use Rattle.node_locks.specs.Held.{waits_at}
 use Rattle.vol_parts.specs.declared.geometry.Geometry.{Geometry}
 use Rattle.vol_under.specs.Guards.{Lock, guard_of, MayLook}
 use Rattle.vol_under.specs.UnderWay.{UnderWay, changed}
-use Rattle.core_cached.specs.Committed.{IsUnderOn, on_its_own}
-use Rattle.core_cached.proofs.Committed.{alike_on}
+use Rattle.core_state.specs.Committed.{IsUnderOn, on_its_own}
+use Rattle.core_state.proofs.Committed.{alike_on}
 use Rattle.vol_under.proofs.Nodes.{each}
 use Rattle.op_law.specs.declared.need.Need.{Need}
 use Rattle.op_law.specs.declared.need.Need.TheVariants as need

@@ -1,3 +1,5 @@
+//! The world of a cluster: what its invariant says of a mounted volume and of the nodes on it.
+
 use crate::node::Node;
 use blk_drive::{ImageDev, Mirror};
 use lock_db::LockDb;

@@ -1,3 +1,5 @@
+//! Mounting: a world is made of a drive on which nothing fatal is found.
+
 ghost use Rattle.std.specs.Prelude.{◌≡◌, ◌≤◌, [], IfOk, IfErr, map, replicate};
 ghost use Rattle.plain_cat.specs.InForm.{InForm};
 ghost use Rattle.core_state.specs.Worlds.{state_of};

@@ -1,3 +1,5 @@
+//! A node of the cluster: its command, its locks, its cache, its stock and its answers.
+
 use core_space::{LastingLocks, SpaceRun};
 use extent_cache::Extents;
 use node_cache::NodeCache;

@@ -1,3 +1,5 @@
+//! Lists with room, made when a volume is mounted, for the file numbers that deaths leak.
+
 ghost use Rattle.std.specs.Prelude.{◌≡◌, ◌+◌, ◌≤◌, ◌<◌, [], IfOk};
 
 use op_law::NoMemory;

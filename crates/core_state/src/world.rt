@@ -1,3 +1,5 @@
+//! A mounted volume, and the nodes that run a script on it.
+
 ghost use Rattle.std.specs.Prelude.{◌≡◌, ◌≤◌, length, map};
 ghost use Rattle.core_state.specs.Worlds.{IsOfWorld, shown};
 ghost use Rattle.core_state.specs.Goods.{Good, IsAccepted};

@@ -1,3 +1,5 @@
+//! What a turn made, the kinds of events, and why a turn made nothing.
+
 ghost use Rattle.std.specs.Prelude.{◌≡◌};
 
 use blk_drive::ImageFault;

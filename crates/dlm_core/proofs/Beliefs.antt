@@ -8,7 +8,7 @@ use Rattle.lock_db.proofs.Lists.{and-left, and-right, not-true, or-false_left, o
 use Rattle.lock_db.proofs.Owners.{same_owner-same, same_owner-refl}
 use Rattle.lock_db.proofs.Names.{is_same-same, is_same-refl}
 use Rattle.dlm_core.specs.declared.holds.Hold.{Hold}
-use Rattle.dlm_core.specs.States.{is_at, is_earlier, hold_at, put_before, noted}
+use Rattle.dlm_core.specs.States.{unseen, is_at, is_earlier, hold_at, put_before, noted}
 use Rattle.dlm_core.specs.Lanes.{each_once}
 
 pub at-owner : (o : Owner) (x : LockName) (h : Hold) → is_at o x h ≡ true → h.owner ≡ o
@@ -57,7 +57,7 @@ pub noted-here : (h : Hold) (hs : List Hold) → hold_at h.owner h.name (noted h
 noted-here h hs =
     let p : Hold → Bool = is_at h.owner h.name in
     let gone : find p (filter (λ (k : Hold). not (p k)) hs) ≡ None = find-absent p (filter (λ (k : Hold). not (p k)) hs) (list_all-passing (λ (k : Hold). not (p k)) hs) in
-    ap (λ (f : Option Hold). unwrap_or f (record { owner = h.owner; name = h.name; belief = None; wait = None })) (find-put_yes (λ (k : Hold). is_earlier h k) p h (filter (λ (k : Hold). not (p k)) hs) (at-itself h) gone)
+    ap (λ (f : Option Hold). unwrap_or f (record { owner = h.owner; name = h.name; belief = None; wait = None; seen = unseen })) (find-put_yes (λ (k : Hold). is_earlier h k) p h (filter (λ (k : Hold). not (p k)) hs) (at-itself h) gone)
 
 apart : (o : Owner) (x : LockName) (h k : Hold) → is_at o x h ≡ false → (not (is_at h.owner h.name k) || not (is_at o x k)) ≡ true
 apart o x h k e =
@@ -77,17 +77,17 @@ apart o x h k e =
 pub noted-other : (o : Owner) (x : LockName) (h : Hold) (hs : List Hold) → is_at o x h ≡ false → hold_at o x (noted h hs) ≡ hold_at o x hs
 noted-other o x h hs e =
     let kept : List Hold = filter (λ (k : Hold). not (is_at h.owner h.name k)) hs in
-    ap (λ (f : Option Hold). unwrap_or f (record { owner = o; name = x; belief = None; wait = None }))
+    ap (λ (f : Option Hold). unwrap_or f (record { owner = o; name = x; belief = None; wait = None; seen = unseen }))
     (find-put_no (λ (k : Hold). is_earlier h k) (is_at o x) h kept e ∙ find-filter (is_at o x) (λ (k : Hold). not (is_at h.owner h.name k)) hs (list_all-every (λ (k : Hold). not (is_at h.owner h.name k) || not (is_at o x k)) hs (λ k. apart o x h k e)))
 
 pub hold-owner : (o : Owner) (x : LockName) (hs : List Hold) → (hold_at o x hs).owner ≡ o
 hold-owner o x hs =
-    (elim (find (is_at o x) hs) as (λ f. find (is_at o x) hs ≡ f → (unwrap_or f (record { owner = o; name = x; belief = None; wait = None })).owner ≡ o)
+    (elim (find (is_at o x) hs) as (λ f. find (is_at o x) hs ≡ f → (unwrap_or f (record { owner = o; name = x; belief = None; wait = None; seen = unseen })).owner ≡ o)
     [ None ↦ λ e. refl | Some h ↦ λ e. at-owner o x h (find-passes (is_at o x) hs h e) ]) refl
 
 pub hold-name : (o : Owner) (x : LockName) (hs : List Hold) → (hold_at o x hs).name ≡ x
 hold-name o x hs =
-    (elim (find (is_at o x) hs) as (λ f. find (is_at o x) hs ≡ f → (unwrap_or f (record { owner = o; name = x; belief = None; wait = None })).name ≡ x)
+    (elim (find (is_at o x) hs) as (λ f. find (is_at o x) hs ≡ f → (unwrap_or f (record { owner = o; name = x; belief = None; wait = None; seen = unseen })).name ≡ x)
     [ None ↦ λ e. refl | Some h ↦ λ e. at-name o x h (find-passes (is_at o x) hs h e) ]) refl
 
 -- each belief stands once

@@ -12,13 +12,13 @@ use Rattle.dlm_core.specs.declared.events.Event.TheVariants as event
 use Rattle.dlm_core.specs.Events.{played}
 use Rattle.dlm_core.specs.Modes.{crosses, writes}
 use Rattle.dlm_core.specs.States.{State, IsShaped, hold_at, asked_hold, noted, noted_block}
-use Rattle.dlm_core.specs.Steps.{call_to, called, ask_after}
+use Rattle.dlm_core.specs.Steps.{call_to, seen_after, called, ask_after}
 use Rattle.dlm_core.specs.Deaths.{lowest, without_dead, rehomed, buried, with_claimed, without_mail, rehomed_to, bereft}
 use Rattle.dlm_core.proofs.Shapes.{bereft_shape}
 
 pub call-steps : (old : Option Mode) (h : Hold) (l : Letter) (fill : ℕ) (s a b d : State) (m : Message) → m ≡ call_to h.owner h.name old l fill s
     → a ≡ record s { blocks = if writes old m.letter then noted_block (record { node = m.owner.node; name = m.name; value = m.value; version = m.version }) s.blocks else s.blocks }
-    → b ≡ record a { holds = noted h a.holds } → d ≡ record b { mail = b.mail ++ m ∷ [] } → d ≡ called old h l fill s
+    → b ≡ record a { holds = noted (record h { seen = seen_after old h m }) a.holds } → d ≡ record b { mail = b.mail ++ m ∷ [] } → d ≡ called old h l fill s
 call-steps old h l fill s a b d m em ea eb ed = rw (ed, eb, ea, em) refl
 
 pub ask-steps : (h k : Hold) (mode : Mode) (fill : ℕ) (s t : State) → is_some h.wait ≡ false → crosses h.belief mode ≡ false → k ≡ asked_hold h mode → t ≡ called h.belief k (Ask mode) fill s → t ≡ ask_after h mode fill s

@@ -55,7 +55,7 @@ ends-false false b e = refl
 -- ---- what filters leave
 
 module _ {X : Type 0} where
-  kept-where : (p q r : X → Bool) (xs : List X) → list_all p xs ≡ true → ((x : X) → p x ≡ true → q x ≡ true → r x ≡ true) → filter q (filter r xs) ≡ filter q xs
+  pub kept-where : (p q r : X → Bool) (xs : List X) → list_all p xs ≡ true → ((x : X) → p x ≡ true → q x ≡ true → r x ≡ true) → filter q (filter r xs) ≡ filter q xs
   kept-where p q r [] a h = refl
   kept-where p q r (x ∷ xs) a h =
       let t = kept-where p q r xs (list_all-tail p x xs a) h in
@@ -117,16 +117,22 @@ loses s d g o x a m e k =
       | inr t ↦ ap not (lost-to d d m (to-is (from_of (master x s) g o) (to_of (master x s) g o) m w ∙ t))
     ])
 
-abbrev left_mail : ℕ → List Message → List Message
+abbrev pub left_mail : ℕ → List Message → List Message
 left_mail d ms = filter (λ m. not (is_lost d m)) ms
 
+pub mails-stay : (s : State) (d : ℕ) (g : Bool) (o : Owner) (x : LockName) (ms : List Message) → list_all (is_addressed s) ms ≡ true → o.node ≢ d → master x s ≢ d → filter (is_kind g o x) (left_mail d ms) ≡ filter (is_kind g o x) ms
+mails-stay s d g o x ms e a b = kept-where (is_addressed s) (is_kind g o x) (λ m. not (is_lost d m)) ms e (keeps s d g o x a b)
+
+pub mails-go : (s : State) (d : ℕ) (g : Bool) (o : Owner) (x : LockName) (ms : List Message) → list_all (is_addressed s) ms ≡ true → (o.node ≡ d) ⊎ (master x s ≡ d) → filter (is_kind g o x) (left_mail d ms) ≡ []
+mails-go s d g o x ms e a = gone-where (is_addressed s) (is_kind g o x) (λ m. not (is_lost d m)) ms e (loses s d g o x a)
+
 letters-stay : (s : State) (d : ℕ) (g : Bool) (o : Owner) (x : LockName) (ms : List Message) → list_all (is_addressed s) ms ≡ true → o.node ≢ d → master x s ≢ d → letters_of g o x (left_mail d ms) ≡ letters_of g o x ms
-letters-stay s d g o x ms e a b = ap (map (λ (m : Message). m.letter)) (kept-where (is_addressed s) (is_kind g o x) (λ m. not (is_lost d m)) ms e (keeps s d g o x a b))
+letters-stay s d g o x ms e a b = ap (map (λ (m : Message). m.letter)) (mails-stay s d g o x ms e a b)
 
 letters-go : (s : State) (d : ℕ) (g : Bool) (o : Owner) (x : LockName) (ms : List Message) → list_all (is_addressed s) ms ≡ true → (o.node ≡ d) ⊎ (master x s ≡ d) → letters_of g o x (left_mail d ms) ≡ []
-letters-go s d g o x ms e a = ap (map (λ (m : Message). m.letter)) (gone-where (is_addressed s) (is_kind g o x) (λ m. not (is_lost d m)) ms e (loses s d g o x a))
+letters-go s d g o x ms e a = ap (map (λ (m : Message). m.letter)) (mails-go s d g o x ms e a)
 
-kept-addressed : (s : State) → list_all (is_kept s) s.kept ≡ true → list_all (is_addressed s) s.kept ≡ true
+pub kept-addressed : (s : State) → list_all (is_kept s) s.kept ≡ true → list_all (is_addressed s) s.kept ≡ true
 kept-addressed s e = list_all-weaker (is_kept s) (is_addressed s) s.kept (λ m k. and-right (is_call m.letter) (is_addressed s m) k) e
 
 bereft-table_is : (d : ℕ) (h : Home) (t : List Resource) → IsTable t → IsTable (bereft_table d h t)
@@ -175,7 +181,7 @@ without-other o d xs n =
           (elim (a.owner.node == d) as (λ b. (a.owner.node == d) ≡ b → not b || not (same_owner a.owner o) ≡ true)
           [ true ↦ λ e. rw (node-apart o d n a.owner e) refl | false ↦ λ e. refl ]) refl
 
-dropped-serves : (x : LockName) (d : ℕ) (o : Owner) (t : List Resource) → IsTable t → o.node ≢ d → Served (standing_of o (resource_at x t).askers) (standing_of o (resource_at x (dropped d t)).askers)
+pub dropped-serves : (x : LockName) (d : ℕ) (o : Owner) (t : List Resource) → IsTable t → o.node ≢ d → Served (standing_of o (resource_at x t).askers) (standing_of o (resource_at x (dropped d t)).askers)
 dropped-serves x d o t i n =
     let xs : List Asker = (resource_at x t).askers in
     let together : all_together (without_node d xs) ≡ true = all_together-filter (λ (a : Asker). not (a.owner.node == d)) xs (IsSettled-at x t i).together in
@@ -237,7 +243,7 @@ from_found o x f = unwrap_or f (nothing_of o x)
 is-dead : (d : ℕ) (o : Owner) (x : LockName) (h : Hold) → is_at o x h ≡ true → (h.owner.node == d) ≡ (o.node == d)
 is-dead d o x h e = ap (λ (z : Owner). z.node == d) (at-owner o x h e)
 
-hold-live : (d : ℕ) (o : Owner) (x : LockName) (hs : List Hold) → (o.node == d) ≡ false → hold_at o x (filter (λ h. not (h.owner.node == d)) hs) ≡ hold_at o x hs
+pub hold-live : (d : ℕ) (o : Owner) (x : LockName) (hs : List Hold) → (o.node == d) ≡ false → hold_at o x (filter (λ h. not (h.owner.node == d)) hs) ≡ hold_at o x hs
 hold-live d o x hs e =
     ap (from_found o x) (find-filter (is_at o x) (λ h. not (h.owner.node == d)) hs (list_all-every (λ h. not (h.owner.node == d) || not (is_at o x h)) hs (λ h. one h)))
   where
@@ -256,23 +262,23 @@ find-dead d o x p (h ∷ hs) e =
       | false ↦ λ a. (elim (p h) as (λ c. find (is_at o x) (cond c (h ∷ filter p hs) (filter p hs)) ≡ None) [ true ↦ rw a t | false ↦ t ])
     ]) refl
 
-hold-dead : (d : ℕ) (o : Owner) (x : LockName) (hs : List Hold) → (o.node == d) ≡ true → hold_at o x (filter (λ h. not (h.owner.node == d)) hs) ≡ nothing_of o x
+pub hold-dead : (d : ℕ) (o : Owner) (x : LockName) (hs : List Hold) → (o.node == d) ≡ true → hold_at o x (filter (λ h. not (h.owner.node == d)) hs) ≡ nothing_of o x
 hold-dead d o x hs e = ap (from_found o x) (find-dead d o x (λ h. not (h.owner.node == d)) hs (λ h a. ap not (is-dead d o x h a ∙ e)))
 
 or-none : (a : Option Hold) → or_else a None ≡ a
 or-none None = refl
 or-none (Some h) = refl
 
-abbrev older : ℕ → State → List Hold
+abbrev pub older : ℕ → State → List Hold
 older d s = filter (λ h. not (h.owner.node == d) && not (was_master d s h.name)) s.claims
 
-abbrev newer : ℕ → State → List Hold
+abbrev pub newer : ℕ → State → List Hold
 newer d s = filter (λ h. was_master d s h.name) (left_holds d s)
 
 of-name : (d : ℕ) (s : State) (o : Owner) (x : LockName) (h : Hold) → is_at o x h ≡ true → was_master d s h.name ≡ was_master d s x
 of-name d s o x h e = ap (λ (y : LockName). was_master d s y) (at-name o x h e)
 
-claims-lost : (d : ℕ) (s : State) (o : Owner) (x : LockName) → was_master d s x ≡ true → hold_at o x (older d s ++ newer d s) ≡ hold_at o x (left_holds d s)
+pub claims-lost : (d : ℕ) (s : State) (o : Owner) (x : LockName) → was_master d s x ≡ true → hold_at o x (older d s ++ newer d s) ≡ hold_at o x (left_holds d s)
 claims-lost d s o x e =
     let none : find (is_at o x) (older d s) ≡ None =
     find-dead d o x (λ h. not (h.owner.node == d) && not (was_master d s h.name)) s.claims (λ h a. ends-false (not (h.owner.node == d)) (not (was_master d s h.name)) (ap not (of-name d s o x h a ∙ e))) in
@@ -293,7 +299,7 @@ claims-older d s o x e =
     let all : find (is_at o x) (older d s ++ newer d s) ≡ find (is_at o x) (older d s) = rw (find-append (is_at o x) (older d s) (newer d s), none) (or-none (find (is_at o x) (older d s))) in
     ap (from_found o x) all
 
-claims-live : (d : ℕ) (s : State) (o : Owner) (x : LockName) → was_master d s x ≡ false → (o.node == d) ≡ false → hold_at o x (older d s ++ newer d s) ≡ hold_at o x s.claims
+pub claims-live : (d : ℕ) (s : State) (o : Owner) (x : LockName) → was_master d s x ≡ false → (o.node == d) ≡ false → hold_at o x (older d s ++ newer d s) ≡ hold_at o x s.claims
 claims-live d s o x e f =
     claims-older d s o x e ∙ ap (from_found o x) (find-filter (is_at o x) (λ h. not (h.owner.node == d) && not (was_master d s h.name)) s.claims
     (list_all-every (λ h. (not (h.owner.node == d) && not (was_master d s h.name)) || not (is_at o x h)) s.claims (λ h. one h)))
@@ -304,7 +310,7 @@ claims-live d s o x e f =
       | false ↦ λ a. or-if_right (not (h.owner.node == d) && not (was_master d s h.name)) true refl
     ]) refl
 
-claims-dead : (d : ℕ) (s : State) (o : Owner) (x : LockName) → was_master d s x ≡ false → (o.node == d) ≡ true → hold_at o x (older d s ++ newer d s) ≡ nothing_of o x
+pub claims-dead : (d : ℕ) (s : State) (o : Owner) (x : LockName) → was_master d s x ≡ false → (o.node == d) ≡ true → hold_at o x (older d s ++ newer d s) ≡ nothing_of o x
 claims-dead d s o x e f =
     claims-older d s o x e ∙ ap (from_found o x) (find-dead d o x (λ h. not (h.owner.node == d) && not (was_master d s h.name)) s.claims (λ h a. rw (is-dead d o x h a, f) refl))
 
@@ -367,7 +373,7 @@ lane-may o x st calls grants qu be wa (Sends lock before s gr q ca lo mw) = mw
 lane-may o x st calls grants qu be wa (Stands w wt s ca gr q ra) = rw wt ra
 lane-may o x st calls grants qu be wa (Comes w wt s ca ig q ra) = rw wt ra
 
-may-at : (r : Option ℕ) (o : Owner) (x : LockName) (s : State) → LaneOf r o x s → MayWait (hold_at o x s.holds).belief (hold_at o x s.holds).wait
+pub may-at : (r : Option ℕ) (o : Owner) (x : LockName) (s : State) → LaneOf r o x s → MayWait (hold_at o x s.holds).belief (hold_at o x s.holds).wait
 may-at None o x s l = lane-may _ _ _ _ _ _ _ _ l
 may-at (Some k) o x s l = lane-may _ _ _ _ _ _ _ _ l.lane
 

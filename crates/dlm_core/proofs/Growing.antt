@@ -28,14 +28,14 @@ lowers-one : (be : Option Mode) (m : Mode) → lowers be m ≡ true → lowered 
 lowers-one None m e = cc
 lowers-one (Some b) m e = rw e refl
 
-some-standing : (a b : Standing) → Some a ≡ Some b → a ≡ b
+pub some-standing : (a b : Standing) → Some a ≡ Some b → a ≡ b
 some-standing a b e = cc
 
-stands-idle : (lock : Option Mode) (s : Standing) → stands_as lock ≡ Some s → is_queued s ≡ true → ⊥
+pub stands-idle : (lock : Option Mode) (s : Standing) → stands_as lock ≡ Some s → is_queued s ≡ true → ⊥
 stands-idle None s e i = cc
 stands-idle (Some m) s e i = let k : is_queued (Granted m) ≡ true = ap is_queued (some-standing (Granted m) s e) ∙ i in cc
 
-wanted-queued : (be : Option Mode) (w : Mode) → wanted (queued_as be w) ≡ w
+pub wanted-queued : (be : Option Mode) (w : Mode) → wanted (queued_as be w) ≡ w
 wanted-queued None w = refl
 wanted-queued (Some m) w = refl
 

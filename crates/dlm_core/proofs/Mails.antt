@@ -111,14 +111,21 @@ lets-weaker s g o x from to m a e p k b =
     ]) refl
 
 -- the first message of a pair is the first of its lane
-pub letters-first : (s : State) (g : Bool) (o : Owner) (x : LockName) (from to : ℕ) (ms : List Message) (m : Message) → list_all (is_addressed s) ms ≡ true
-    → find (is_between from to) ms ≡ Some m → is_kind g o x m ≡ true → letters_of g o x ms ≡ m.letter ∷ letters_of g o x (past_first (is_between from to) ms)
-letters-first s g o x from to ms m a f e =
+pub mails-first : (s : State) (g : Bool) (o : Owner) (x : LockName) (from to : ℕ) (ms : List Message) (m : Message) → list_all (is_addressed s) ms ≡ true
+    → find (is_between from to) ms ≡ Some m → is_kind g o x m ≡ true → filter (is_kind g o x) ms ≡ m ∷ filter (is_kind g o x) (past_first (is_between from to) ms)
+mails-first s g o x from to ms m a f e =
     let mine = list_all-find (is_addressed s) (is_between from to) ms m a f in
     let p = find-passes (is_between from to) ms m f in
-    ap (map (λ (k : Message). k.letter)) (past-here (is_between from to) (is_kind g o x) ms m f e
-    (list_all-weaker (is_addressed s) (λ k. not (is_kind g o x k) || is_between from to k) ms (λ k b. lets-weaker s g o x from to m mine e p k b) a))
+    past-here (is_between from to) (is_kind g o x) ms m f e (list_all-weaker (is_addressed s) (λ k. not (is_kind g o x k) || is_between from to k) ms (λ k b. lets-weaker s g o x from to m mine e p k b) a)
+
+pub letters-first : (s : State) (g : Bool) (o : Owner) (x : LockName) (from to : ℕ) (ms : List Message) (m : Message) → list_all (is_addressed s) ms ≡ true
+    → find (is_between from to) ms ≡ Some m → is_kind g o x m ≡ true → letters_of g o x ms ≡ m.letter ∷ letters_of g o x (past_first (is_between from to) ms)
+letters-first s g o x from to ms m a f e = ap (map (λ (k : Message). k.letter)) (mails-first s g o x from to ms m a f e)
+
+pub mails-past : (g : Bool) (o : Owner) (x : LockName) (from to : ℕ) (ms : List Message) (m : Message)
+    → find (is_between from to) ms ≡ Some m → is_kind g o x m ≡ false → filter (is_kind g o x) (past_first (is_between from to) ms) ≡ filter (is_kind g o x) ms
+mails-past g o x from to ms m f e = past-other (is_between from to) (is_kind g o x) ms m f e
 
 pub letters-past : (g : Bool) (o : Owner) (x : LockName) (from to : ℕ) (ms : List Message) (m : Message)
     → find (is_between from to) ms ≡ Some m → is_kind g o x m ≡ false → letters_of g o x (past_first (is_between from to) ms) ≡ letters_of g o x ms
-letters-past g o x from to ms m f e = ap (map (λ (k : Message). k.letter)) (past-other (is_between from to) (is_kind g o x) ms m f e)
+letters-past g o x from to ms m f e = ap (map (λ (k : Message). k.letter)) (mails-past g o x from to ms m f e)

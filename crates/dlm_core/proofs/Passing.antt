@@ -238,17 +238,17 @@ used-some o (a ∷ rest) st e = not-zero (length rest)
 pub used-by : (x : LockName) (o : Owner) (t : List Resource) (st : Standing) → standing_of o (resource_at x t).askers ≡ Some st → is_used (resource_at x t) ≡ true
 used-by x o t st e = used-some o (resource_at x t).askers st e
 
-pub askers-recovered : (x : LockName) (v : List ℕ) (t : List Resource) → is_used (resource_at x t) ≡ true → (resource_at x (recovered x v t)).askers ≡ (resource_at x t).askers
-askers-recovered x v t u = ap (λ (r : Resource). r.askers) (recovered-at x v t u)
+pub askers-recovered : (x : LockName) (v : List ℕ) (b : Bool) (t : List Resource) → is_used (resource_at x t) ≡ true → (resource_at x (recovered x v b t)).askers ≡ (resource_at x t).askers
+askers-recovered x v b t u = ap (λ (r : Resource). r.askers) (recovered-at x v b t u)
 
 -- a call behind which the value block is recovered
-pub call-again : (s : State) (m : Message) (ms : List Message) (t : List Resource) (q : List Waiter) (v : List ℕ) (st : Standing) → Call s m ms t q → standing_of m.owner (resource_at m.name t).askers ≡ Some st → Call s m ms (recovered m.name v t) q
-call-again s m ms t q v st c e =
-    let same = askers-recovered m.name v t (used-by m.name m.owner t st e) in
+pub call-again : (s : State) (m : Message) (ms : List Message) (t : List Resource) (q : List Waiter) (v : List ℕ) (b : Bool) (st : Standing) → Call s m ms t q → standing_of m.owner (resource_at m.name t).askers ≡ Some st → Call s m ms (recovered m.name v b t) q
+call-again s m ms t q v b st c e =
+    let same = askers-recovered m.name v b t (used-by m.name m.owner t st e) in
     record {
       open_name = c.open_name;
-      table = IsTable-recovered m.name v t c.table;
-      others = λ y d. recovered-leaves m.name v t y d ∙ c.others y d;
+      table = IsTable-recovered m.name v b t c.table;
+      others = λ y d. recovered-leaves m.name v b t y d ∙ c.others y d;
       here = λ p n. rw same (c.here p n);
       queue = c.queue;
       grants = c.grants;
@@ -268,9 +268,9 @@ ask-stands s from to m w i a l =
 
 -- a grant comes
 grant-own : (o : Option ℕ) (s : State) (from to : ℕ) (m : Message) (w : Mode) (v : Bool) → IsSound s → find (is_between from to) s.mail ≡ Some m → m.letter ≡ Grant w v
-    → LaneOf o m.owner m.name s → LaneOf o m.owner m.name (granted m w (record s { mail = past_first (is_between from to) s.mail }))
+    → LaneOf o m.owner m.name s → LaneOf o m.owner m.name (granted m w v (record s { mail = past_first (is_between from to) s.mail }))
 grant-own None s from to m w v i f l lane =
-    let h : Hold = record { owner = m.owner; name = m.name; belief = Some w; wait = None } in
+    let h : Hold = record { owner = m.owner; name = m.name; belief = Some w; wait = None; seen = record { value = m.value; valid = v; version = m.version } } in
     let ms : List Message = past_first (is_between from to) s.mail in
     let calls = letters-past false m.owner m.name from to s.mail m f (kind-other false m.owner m.name m (ap (has_kind false) l)) in
     let grants : letters_of true m.owner m.name s.mail ≡ Grant w v ∷ letters_of true m.owner m.name ms =
@@ -289,11 +289,11 @@ lane-stays None s ms hs bs p y a b c lane = rw (a, b, c) lane
 lane-stays (Some d) s ms hs bs p y a b c lane = record { lane = rw (a, c) lane.lane; no_grants = b ∙ lane.no_grants; no_waiters = lane.no_waiters }
 
 pub grant-sound : (s : State) (from to : ℕ) (m : Message) (w : Mode) (v : Bool) → IsSound s → find (is_between from to) s.mail ≡ Some m → m.letter ≡ Grant w v
-    → IsSound (granted m w (record s { mail = past_first (is_between from to) s.mail }))
+    → IsSound (granted m w v (record s { mail = past_first (is_between from to) s.mail }))
 grant-sound s from to m w v i f l =
-    let h : Hold = record { owner = m.owner; name = m.name; belief = Some w; wait = None } in
+    let h : Hold = record { owner = m.owner; name = m.name; belief = Some w; wait = None; seen = record { value = m.value; valid = v; version = m.version } } in
     let ms : List Message = past_first (is_between from to) s.mail in
-    let next : State = granted m w (record s { mail = ms }) in
+    let next : State = granted m w v (record s { mail = ms }) in
     record {
       some_node = i.some_node;
       each_has_one = i.each_has_one;

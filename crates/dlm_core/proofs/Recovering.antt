@@ -1,5 +1,5 @@
 -- The state stays sound when a recovery ends.
-use Rattle.std.proofs.Common.{◌≡◌, ◌==◌, ◌&&◌, ◌||◌, ◌++◌, inl, Contains, ℕ, zero, suc, ◌-◌, Bool, true, false, not, List, [], ◌∷◌, Option, Some, None, is_some, map, filter, find, get_or, append_assoc, refl, cond, ap, sym, subst, ◌∙◌, if◌then◌else◌, unwrap_or}
+use Rattle.std.proofs.Common.{◌≡◌, ◌==◌, ◌&&◌, ◌||◌, ◌++◌, inl, inr, ◌⊎◌, Contains, ℕ, zero, suc, ◌-◌, Bool, true, false, not, List, [], ◌∷◌, Option, Some, None, is_some, map, filter, find, set, get_or, append_assoc, refl, cond, ap, sym, subst, ◌∙◌, if◌then◌else◌, unwrap_or}
 use Rattle.std.specs.List.{list_all, list_any}
 use Rattle.std.proofs.lemmas.List.{append-nil}
 use Rattle.dlm_core.proofs.Shapes.{length-homes}
@@ -9,30 +9,33 @@ use Rattle.lock_db.specs.declared.name.LockName.{LockName}
 use Rattle.lock_db.specs.declared.name.Owner.{Owner}
 use Rattle.lock_db.specs.declared.resource.Resource.{Resource}
 use Rattle.lock_db.specs.Queues.{standing_of, mode_of}
-use Rattle.lock_db.specs.Tables.{resource_at}
-use Rattle.lock_db.proofs.Lists.{and-left, and-right, and-both, not-true, or-false_left, or-false_right, list_all-head, list_all-tail, list_all-filter, list_all-weaker, list_all-kept, list_all-joined, list_all-passing, list_all-every, find-filter}
+use Rattle.lock_db.specs.Names.{is_same}
+use Rattle.lock_db.proofs.Names.{is_same-same, is_same-refl}
+use Rattle.lock_db.specs.Tables.{resource_at, recovered}
+use Rattle.lock_db.proofs.Lists.{and-left, and-right, and-both, not-true, or-false_left, or-false_right, list_all-head, list_all-tail, list_all-filter, list_all-weaker, list_all-kept, list_all-joined, list_all-passing, list_all-every, find-filter, find-absent, find-push_yes, find-push_no}
 use Rattle.dlm_core.specs.declared.messages.Letter.{Letter}
 use Rattle.dlm_core.specs.declared.messages.Letter.TheVariants.{Ask, Drop, Grant, Claim}
 use Rattle.dlm_core.specs.declared.messages.Message.{Message}
 use Rattle.dlm_core.specs.declared.holds.Hold.{Hold}
 use Rattle.dlm_core.specs.declared.homes.Home.{Home}
 use Rattle.dlm_core.specs.declared.blocks.Block.{Block}
+use Rattle.dlm_core.specs.declared.blocks.Seen.{Seen}
 use Rattle.dlm_core.specs.declared.blocks.Version.{Version}
 use Rattle.dlm_core.specs.declared.queue.Waiter.{Waiter}
-use Rattle.dlm_core.specs.States.{State, home, home_at, master, recovery, table_at, told_at, is_at, hold_at, is_between, past_first}
+use Rattle.dlm_core.specs.States.{State, version_at, noted_version, home, home_at, master, recovery, table_at, told_at, is_at, hold_at, is_between, past_first}
 use Rattle.dlm_core.specs.Steps.{is_call, stands_as, grants_of, ask_made, put_last, drop_made, with_table, versions_after, taken_from, taken, taken_all}
-use Rattle.dlm_core.specs.Recoveries.{is_of_recovery, is_name_of, is_with, best_block, again, made_again, reclaimed_lock, reclaimed, asked_again, asked_again_one, all_asked_again, settled_home, closed, ended, is_open, ended_if, all_ended}
+use Rattle.dlm_core.specs.Recoveries.{is_of_recovery, is_name_of, is_with, block_for, again, made_again, reclaimed_lock, reclaimed, asked_again, asked_again_one, all_asked_again, settled_home, closed, ended, is_open, ended_if, all_ended}
 use Rattle.dlm_core.specs.Lanes.{is_kind, letters_of, LaneOf, LaneAt, last_ask, standing_at, goes_between, is_addressed, is_kept, each_once, GoTogether, IsSound}
 use Rattle.dlm_core.proofs.Mails.{letters-append, letters-none, kind-name}
 use Rattle.dlm_core.proofs.Beliefs.{at-owner, at-name, once-filter}
 use Rattle.dlm_core.proofs.Takes.{Call, called_so, call-sound, served-sound}
 use Rattle.dlm_core.proofs.Passing.{call-first, ask-call, ask-stands, call-again, taken-sound, call-no_grant}
-use Rattle.dlm_core.specs.Runs.{IsDue, IsClaimOf, MakesCall, Leads}
+use Rattle.dlm_core.specs.Runs.{claimed_block, IsDue, IsClaimOf, MakesCall, Leads}
 use Rattle.dlm_core.specs.Runs.IsStep.{Restores}
 use Rattle.dlm_core.proofs.Others.{can-mode}
 use Rattle.dlm_core.proofs.Tracing.{Each, one-ask, leads-here, leads-then}
 use Rattle.dlm_core.specs.Restored.{has_lock}
-use Rattle.dlm_core.proofs.Restoring.{Restored, restore-none, restore-one, claim-none, nothing_of}
+use Rattle.dlm_core.proofs.Restoring.{Restored, restore-none, restore-one, claim-none, nothing_of, not-lock, other-lock}
 use Rattle.dlm_core.proofs.Serving.{eq-self}
 
 -- ---- the homes of a recovery that ends
@@ -80,41 +83,41 @@ kept-closed d s m e = and-both (is_call m.letter) (is_addressed (closed d s) m) 
 -- ---- the claimed asks as messages
 
 -- a claimed ask, to this master
-abbrev pub asks_one : Option Mode → Block → ℕ → Hold → List Message
+abbrev pub asks_one : Option Mode → Seen → ℕ → Hold → List Message
 asks_one None b at h = []
 asks_one (Some w) b at h = record { from = h.owner.node; to = at; owner = h.owner; name = h.name; letter = Ask w; value = b.value; version = b.version } ∷ []
 
-abbrev pub asks_of : List Block → (LockName → ℕ) → List Hold → List Message
+abbrev pub asks_of : (LockName → Seen) → (LockName → ℕ) → List Hold → List Message
 asks_of bs at [] = []
-asks_of bs at (h ∷ hs) = asks_one h.wait (best_block h.name bs) (at h.name) h ++ asks_of bs at hs
+asks_of bs at (h ∷ hs) = asks_one h.wait (bs h.name) (at h.name) h ++ asks_of bs at hs
 
-asks-one-grants : (o : Owner) (x : LockName) (w : Option Mode) (b : Block) (at : ℕ) (h : Hold) → letters_of true o x (asks_one w b at h) ≡ []
+asks-one-grants : (o : Owner) (x : LockName) (w : Option Mode) (b : Seen) (at : ℕ) (h : Hold) → letters_of true o x (asks_one w b at h) ≡ []
 asks-one-grants o x None b at h = refl
 asks-one-grants o x (Some w) b at h = refl
 
-asks-one-here : (o : Owner) (x : LockName) (w : Option Mode) (b : Block) (at : ℕ) (h : Hold) → is_at o x h ≡ true → letters_of false o x (asks_one w b at h) ≡ last_ask w
+asks-one-here : (o : Owner) (x : LockName) (w : Option Mode) (b : Seen) (at : ℕ) (h : Hold) → is_at o x h ≡ true → letters_of false o x (asks_one w b at h) ≡ last_ask w
 asks-one-here o x None b at h e = refl
 asks-one-here o x (Some w) b at h e = rw e refl
 
-asks-one-other : (o : Owner) (x : LockName) (w : Option Mode) (b : Block) (at : ℕ) (h : Hold) → is_at o x h ≡ false → letters_of false o x (asks_one w b at h) ≡ []
+asks-one-other : (o : Owner) (x : LockName) (w : Option Mode) (b : Seen) (at : ℕ) (h : Hold) → is_at o x h ≡ false → letters_of false o x (asks_one w b at h) ≡ []
 asks-one-other o x None b at h e = refl
 asks-one-other o x (Some w) b at h e = rw e refl
 
-asks-grants : (o : Owner) (x : LockName) (bs : List Block) (at : LockName → ℕ) (hs : List Hold) → letters_of true o x (asks_of bs at hs) ≡ []
+asks-grants : (o : Owner) (x : LockName) (bs : LockName → Seen) (at : LockName → ℕ) (hs : List Hold) → letters_of true o x (asks_of bs at hs) ≡ []
 asks-grants o x bs at [] = refl
 asks-grants o x bs at (h ∷ hs) =
-    letters-append true o x (asks_one h.wait (best_block h.name bs) (at h.name) h) (asks_of bs at hs) ∙ rw (asks-one-grants o x h.wait (best_block h.name bs) (at h.name) h) (asks-grants o x bs at hs)
+    letters-append true o x (asks_one h.wait (bs h.name) (at h.name) h) (asks_of bs at hs) ∙ rw (asks-one-grants o x h.wait (bs h.name) (at h.name) h) (asks-grants o x bs at hs)
 
-asks-none : (o : Owner) (x : LockName) (bs : List Block) (at : LockName → ℕ) (hs : List Hold) → list_any (is_at o x) hs ≡ false → letters_of false o x (asks_of bs at hs) ≡ []
+pub asks-none : (o : Owner) (x : LockName) (bs : LockName → Seen) (at : LockName → ℕ) (hs : List Hold) → list_any (is_at o x) hs ≡ false → letters_of false o x (asks_of bs at hs) ≡ []
 asks-none o x bs at [] e = refl
 asks-none o x bs at (h ∷ hs) e =
-    letters-append false o x (asks_one h.wait (best_block h.name bs) (at h.name) h) (asks_of bs at hs)
-    ∙ rw (asks-one-other o x h.wait (best_block h.name bs) (at h.name) h (or-false_left (is_at o x h) (list_any (is_at o x) hs) e)) (asks-none o x bs at hs (or-false_right (is_at o x h) (list_any (is_at o x) hs) e))
+    letters-append false o x (asks_one h.wait (bs h.name) (at h.name) h) (asks_of bs at hs)
+    ∙ rw (asks-one-other o x h.wait (bs h.name) (at h.name) h (or-false_left (is_at o x h) (list_any (is_at o x) hs) e)) (asks-none o x bs at hs (or-false_right (is_at o x h) (list_any (is_at o x) hs) e))
 
-asks-calls : (o : Owner) (x : LockName) (bs : List Block) (at : LockName → ℕ) (hs : List Hold) → each_once hs ≡ true → letters_of false o x (asks_of bs at hs) ≡ last_ask (hold_at o x hs).wait
+pub asks-calls : (o : Owner) (x : LockName) (bs : LockName → Seen) (at : LockName → ℕ) (hs : List Hold) → each_once hs ≡ true → letters_of false o x (asks_of bs at hs) ≡ last_ask (hold_at o x hs).wait
 asks-calls o x bs at [] e = refl
 asks-calls o x bs at (h ∷ hs) e =
-    let b : Block = best_block h.name bs in
+    let b : Seen = bs h.name in
     let more = letters-append false o x (asks_one h.wait b (at h.name) h) (asks_of bs at hs) in
     let first : list_any (is_at h.owner h.name) hs ≡ false = not-true (list_any (is_at h.owner h.name) hs) (and-left (not (list_any (is_at h.owner h.name) hs)) (each_once hs) e) in
     let rest = and-right (not (list_any (is_at h.owner h.name) hs)) (each_once hs) e in
@@ -127,13 +130,13 @@ asks-calls o x bs at (h ∷ hs) e =
       | false ↦ λ a. more ∙ rw (asks-one-other o x h.wait b (at h.name) h a) (asks-calls o x bs at hs rest)
     ]) refl
 
-asks-one-addressed : (s : State) (w : Option Mode) (b : Block) (h : Hold) → list_all (is_addressed s) (asks_one w b (master h.name s) h) ≡ true
+asks-one-addressed : (s : State) (w : Option Mode) (b : Seen) (h : Hold) → list_all (is_addressed s) (asks_one w b (master h.name s) h) ≡ true
 asks-one-addressed s None b h = refl
 asks-one-addressed s (Some w) b h = and-both ((h.owner.node == h.owner.node) && (master h.name s == master h.name s)) true (and-both (h.owner.node == h.owner.node) (master h.name s == master h.name s) (eq-self h.owner.node) (eq-self (master h.name s))) refl
 
-asks-addressed : (s : State) (bs : List Block) (hs : List Hold) → list_all (is_addressed s) (asks_of bs (λ x. master x s) hs) ≡ true
+asks-addressed : (s : State) (bs : LockName → Seen) (hs : List Hold) → list_all (is_addressed s) (asks_of bs (λ x. master x s) hs) ≡ true
 asks-addressed s bs [] = refl
-asks-addressed s bs (h ∷ hs) = list_all-joined (is_addressed s) (asks_one h.wait (best_block h.name bs) (master h.name s) h) (asks_of bs (λ x. master x s) hs) (asks-one-addressed s h.wait (best_block h.name bs) h) (asks-addressed s bs hs)
+asks-addressed s bs (h ∷ hs) = list_all-joined (is_addressed s) (asks_one h.wait (bs h.name) (master h.name s) h) (asks_of bs (λ x. master x s) hs) (asks-one-addressed s h.wait (bs h.name) h) (asks-addressed s bs hs)
 
 kept-grants : (s : State) (o : Owner) (x : LockName) (ks : List Message) → list_all (is_kept s) ks ≡ true → letters_of true o x ks ≡ []
 kept-grants s o x [] e = refl
@@ -155,7 +158,7 @@ kind-filter p g o x ms e = ap (map (λ (m : Message). m.letter)) (kept-by (is_ki
           | false ↦ λ e. (elim (r m) as (λ c. filter q (cond c (m ∷ filter r ms) (filter r ms)) ≡ filter q ms) [ true ↦ rw e t | false ↦ t ])
         ]) refl
 
-kind-filtered : (p : LockName → Bool) (g : Bool) (o : Owner) (x : LockName) (ms : List Message) → p x ≡ false → letters_of g o x (filter (λ m. p m.name) ms) ≡ []
+pub kind-filtered : (p : LockName → Bool) (g : Bool) (o : Owner) (x : LockName) (ms : List Message) → p x ≡ false → letters_of g o x (filter (λ m. p m.name) ms) ≡ []
 kind-filtered p g o x [] e = refl
 kind-filtered p g o x (m ∷ ms) e =
     let t = kind-filtered p g o x ms e in
@@ -201,7 +204,7 @@ together-filter p hs g a b x m n d e f =
           | false ↦ λ f. t
         ]) refl
 
-any-filtered : (p : LockName → Bool) (o : Owner) (x : LockName) (hs : List Hold) → p x ≡ false → list_any (is_at o x) (filter (λ h. p h.name) hs) ≡ false
+pub any-filtered : (p : LockName → Bool) (o : Owner) (x : LockName) (hs : List Hold) → p x ≡ false → list_any (is_at o x) (filter (λ h. p h.name) hs) ≡ false
 any-filtered p o x [] e = refl
 any-filtered p o x (h ∷ hs) e =
     let t = any-filtered p o x hs e in
@@ -217,41 +220,37 @@ any-filtered p o x (h ∷ hs) e =
 
 -- ---- the claimed locks are granted, and the claimed asks and what was kept back are in front of the mail
 
-abbrev claims_of : ℕ → State → List Hold
+abbrev pub claims_of : ℕ → State → List Hold
 claims_of d s = filter (λ h. is_with true d s h.name) s.claims
 
-abbrev kept_of : ℕ → State → List Message
+abbrev pub kept_of : ℕ → State → List Message
 kept_of d s = filter (λ m. is_with true d s m.name) s.kept
 
-abbrev at_hand : ℕ → List Block → State → List Message
+abbrev pub at_hand : ℕ → (LockName → Seen) → State → List Message
 at_hand d bs s = asks_of bs (λ x. master x (closed d s)) (claims_of d s) ++ kept_of d s
 
-abbrev restored : ℕ → List Block → State → List (List Resource) → List Version → State
+abbrev pub restored : ℕ → (LockName → Seen) → State → List (List Resource) → List Version → State
 restored d bs s ts vs = record (closed d s) { tables = ts; versions = vs; mail = at_hand d bs s ++ s.mail }
 
--- the claimed bytes of a name
-abbrev pub vals_of : List Block → LockName → List ℕ
-vals_of bs x = (best_block x bs).value
-
-abbrev IsRestored : ℕ → List Block → State → List (List Resource) → Type 0
-IsRestored d bs s ts = Restored (is_name_of d s) (vals_of bs) s.nodes (closed d s).homes s.tables (claims_of d s) ts
+abbrev pub IsRestored : ℕ → (LockName → Seen) → State → List (List Resource) → Type 0
+IsRestored d bs s ts = Restored (is_name_of d s) bs s.nodes (closed d s).homes s.tables (claims_of d s) ts
 
 not-true_so : (a : Bool) → a ≡ false → not a ≡ true
 not-true_so a e = ap not e
 
-hand-letters : (g : Bool) (o : Owner) (x : LockName) (d : ℕ) (bs : List Block) (s : State) (ms : List Message) (u v : List Letter)
+hand-letters : (g : Bool) (o : Owner) (x : LockName) (d : ℕ) (bs : LockName → Seen) (s : State) (ms : List Message) (u v : List Letter)
     → letters_of g o x (asks_of bs (λ y. master y (closed d s)) (claims_of d s)) ≡ u → letters_of g o x (kept_of d s) ≡ v → letters_of g o x (at_hand d bs s ++ ms) ≡ (u ++ v) ++ letters_of g o x ms
 hand-letters g o x d bs s ms u v e f =
     let as1 : List Message = asks_of bs (λ y. master y (closed d s)) (claims_of d s) in
     letters-append g o x (as1 ++ kept_of d s) ms ∙ ap (λ (ls : List Letter). ls ++ letters_of g o x ms) (letters-append g o x as1 (kept_of d s) ∙ rw (e, f) refl)
 
-hand-theirs : (g : Bool) (o : Owner) (x : LockName) (d : ℕ) (bs : List Block) (s : State) (ms : List Message) → is_name_of d s x ≡ false → letters_of g o x (at_hand d bs s ++ ms) ≡ letters_of g o x ms
+hand-theirs : (g : Bool) (o : Owner) (x : LockName) (d : ℕ) (bs : LockName → Seen) (s : State) (ms : List Message) → is_name_of d s x ≡ false → letters_of g o x (at_hand d bs s ++ ms) ≡ letters_of g o x ms
 hand-theirs true o x d bs s ms e =
     hand-letters true o x d bs s ms [] [] (asks-grants o x bs (λ y. master y (closed d s)) (claims_of d s)) (kind-filtered (is_name_of d s) true o x s.kept e)
 hand-theirs false o x d bs s ms e =
     hand-letters false o x d bs s ms [] [] (asks-none o x bs (λ y. master y (closed d s)) (claims_of d s) (any-filtered (is_name_of d s) o x s.claims e)) (kind-filtered (is_name_of d s) false o x s.kept e)
 
-lane-theirs : (r : Option ℕ) (o : Owner) (x : LockName) (d : ℕ) (bs : List Block) (s : State) (ts : List (List Resource)) (vs : List Version) → IsRestored d bs s ts → is_name_of d s x ≡ false → LaneOf r o x s → LaneOf r o x (restored d bs s ts vs)
+lane-theirs : (r : Option ℕ) (o : Owner) (x : LockName) (d : ℕ) (bs : LockName → Seen) (s : State) (ts : List (List Resource)) (vs : List Version) → IsRestored d bs s ts → is_name_of d s x ≡ false → LaneOf r o x s → LaneOf r o x (restored d bs s ts vs)
 lane-theirs None o x d bs s ts vs r e lane =
     let st : standing_of o (resource_at x (table_at (home s.nodes x) ts)).askers ≡ standing_at o x s = ap (λ (z : Resource). standing_of o z.askers) (r.others x e) in
     rw (st, hand-theirs false o x d bs s s.mail e, hand-theirs true o x d bs s s.mail e) lane
@@ -260,7 +259,7 @@ lane-theirs (Some k) o x d bs s ts vs r e lane =
     let t : p x ≡ true = not-true_so (is_name_of d s x) e in
     record { lane = rw (hold-filter p o x s.claims t, kind-filter p false o x s.kept t, hand-theirs false o x d bs s s.mail e) lane.lane; no_grants = hand-theirs true o x d bs s s.mail e ∙ lane.no_grants; no_waiters = lane.no_waiters }
 
-lane-mine : (r : Option ℕ) (o : Owner) (x : LockName) (d : ℕ) (bs : List Block) (s : State) (ts : List (List Resource)) (vs : List Version) → IsSound s → IsRestored d bs s ts → is_name_of d s x ≡ true → is_of_recovery d r ≡ true → LaneOf r o x s
+lane-mine : (r : Option ℕ) (o : Owner) (x : LockName) (d : ℕ) (bs : LockName → Seen) (s : State) (ts : List (List Resource)) (vs : List Version) → IsSound s → IsRestored d bs s ts → is_name_of d s x ≡ true → is_of_recovery d r ≡ true → LaneOf r o x s
     → LaneOf None o x (restored d bs s ts vs)
 lane-mine None o x d bs s ts vs i r e f lane = cc
 lane-mine (Some k) o x d bs s ts vs i r e f lane =
@@ -276,7 +275,7 @@ lane-mine (Some k) o x d bs s ts vs i r e f lane =
     hand-letters true o x d bs s s.mail [] [] (asks-grants o x bs (λ y. master y (closed d s)) hs) (kind-filter (is_name_of d s) true o x s.kept e ∙ kept-grants s o x s.kept i.kept_back) ∙ lane.no_grants in
     rw (st, calls, grants, lane.no_waiters) lane.lane
 
-pub restored-sound : (d : ℕ) (bs : List Block) (s : State) (ts : List (List Resource)) (vs : List Version) → IsSound s → IsRestored d bs s ts → IsSound (restored d bs s ts vs)
+pub restored-sound : (d : ℕ) (bs : LockName → Seen) (s : State) (ts : List (List Resource)) (vs : List Version) → IsSound s → IsRestored d bs s ts → IsSound (restored d bs s ts vs)
 restored-sound d bs s ts vs i r =
     let c : State = closed d s in
     let kept1 : list_all (is_kept s) (kept_of d s) ≡ true = list_all-filter (is_kept s) (λ m. is_with true d s m.name) s.kept i.kept_back in
@@ -309,7 +308,7 @@ of-some d (Some k) e = refl
 none-has : (x : LockName) → has_lock x [] ≡ true → ⊥
 none-has x e = cc
 
-pub restore-start : (d : ℕ) (bs : List Block) (s : State) → IsSound s → Restored (is_name_of d s) (vals_of bs) s.nodes (closed d s).homes s.tables [] s.tables
+pub restore-start : (d : ℕ) (bs : LockName → Seen) (s : State) → IsSound s → Restored (is_name_of d s) bs s.nodes (closed d s).homes s.tables [] s.tables
 restore-start d bs s i = record {
   length_is = i.each_has_one;
   tables_are = i.tables_are;
@@ -322,50 +321,86 @@ restore-start d bs s i = record {
 abbrev pub with_tables : State → List (List Resource) → List Version → State
 with_tables c ts vs = record c { tables = ts; versions = vs }
 
--- a claim was made of a name whose recovery ends, and of these value blocks the best is the best of all
-pub record IsClaimable (r : State) (bs : List Block) (h : Hold) : Type 0 where
+-- a claim was made of a name whose recovery ends, and this is the value block that the name gets
+pub record IsClaimable (r : State) (bs : LockName → Seen) (h : Hold) : Type 0 where
   pub made : Contains r.claims h
   pub due : IsDue r h.name
-  pub block : (best_block h.name bs).value ≡ (best_block h.name r.claimed_blocks).value
+  pub block : bs h.name ≡ claimed_block r h.name
 
-pub record Reclaims (d : ℕ) (bs : List Block) (s : State) (hs : List Hold) (ts : List (List Resource)) (vs : List Version) : Type 0 where
+-- the version of a name
+version-here : (x : LockName) (v : ℕ) (vs : List Version) → version_at x (noted_version x v vs) ≡ v
+version-here x v vs =
+    let p : Version → Bool = λ k. is_same k.name x in
+    let one : Version = record { name = x; version = v } in
+    let gone : find p (filter (λ (k : Version). not (p k)) vs) ≡ None = find-absent p (filter (λ (k : Version). not (p k)) vs) (list_all-passing (λ (k : Version). not (p k)) vs) in
+    ap (λ (f : Option Version). (unwrap_or f (record { name = x; version = 0 })).version) (find-push_yes p (filter (λ (k : Version). not (p k)) vs) one (is_same-refl x) gone)
+
+version-other : (x y : LockName) (v : ℕ) (vs : List Version) → is_same y x ≡ false → version_at x (noted_version y v vs) ≡ version_at x vs
+version-other x y v vs e =
+    let kept : List Version = filter (λ (k : Version). not (is_same k.name y)) vs in
+    ap (λ (f : Option Version). (unwrap_or f (record { name = x; version = 0 })).version)
+    (find-push_no (λ (k : Version). is_same k.name x) kept (record { name = y; version = v }) e
+    ∙ find-filter (λ (k : Version). is_same k.name x) (λ (k : Version). not (is_same k.name y)) vs (list_all-every (λ (k : Version). not (is_same k.name y) || not (is_same k.name x)) vs (λ k. apart k)))
+  where
+    apart : (k : Version) → (not (is_same k.name y) || not (is_same k.name x)) ≡ true
+    apart k = (elim (is_same k.name y) as (λ b. is_same k.name y ≡ b → (not b || not (is_same k.name x)) ≡ true) [
+      | true ↦ λ f. rw (is_same-same k.name y f, e) refl
+      | false ↦ λ f. refl
+    ]) refl
+
+lock-behind : (x : LockName) (h : Hold) (hs : List Hold) → (is_same h.name x && is_some h.belief) ≡ false → has_lock x (h ∷ hs) ≡ true → has_lock x hs ≡ true
+lock-behind x h hs e f = let k : ((is_same h.name x && is_some h.belief) || has_lock x hs) ≡ has_lock x hs = rw e refl in sym k ∙ f
+
+noted-next : (x : LockName) (bs : LockName → Seen) (h : Hold) (hs : List Hold) (vs : List Version) → (has_lock x (h ∷ hs) ≡ true) ⊎ (version_at x vs ≡ (bs x).version)
+    → (has_lock x hs ≡ true) ⊎ (version_at x (noted_version h.name (bs h.name).version vs) ≡ (bs x).version)
+noted-next x bs h hs vs a =
+    (elim (is_same h.name x) as (λ b. is_same h.name x ≡ b → (has_lock x hs ≡ true) ⊎ (version_at x (noted_version h.name (bs h.name).version vs) ≡ (bs x).version)) [
+      | true ↦ λ e. inr (subst (λ (y : LockName). version_at y (noted_version h.name (bs h.name).version vs) ≡ (bs y).version) (is_same-same h.name x e) (version-here h.name (bs h.name).version vs))
+      | false ↦ λ e. elim a [
+        | inl f ↦ inl (lock-behind x h hs (other-lock x h e) f)
+        | inr f ↦ inr (version-other x h.name (bs h.name).version vs e ∙ f)
+      ]
+    ]) refl
+
+pub record Reclaims (d : ℕ) (bs : LockName → Seen) (s : State) (hs : List Hold) (ts : List (List Resource)) (vs : List Version) : Type 0 where
   pub tables : List (List Resource)
   pub versions : List Version
   pub is : reclaimed bs hs (with_tables (closed d s) ts vs) ≡ with_tables (closed d s) tables versions
   pub all : IsRestored d bs s tables
   pub steps : (r : State) → Each (IsClaimable r bs) hs → Leads s.nodes r ts tables
+  pub noted : (x : LockName) → (has_lock x hs ≡ true) ⊎ (version_at x vs ≡ (bs x).version) → version_at x versions ≡ (bs x).version
 
-abbrev pub Restoring1 : ℕ → List Block → State → List Hold → List (List Resource) → Type 0
-Restoring1 d bs s done ts = Restored (is_name_of d s) (vals_of bs) s.nodes (closed d s).homes s.tables done ts
+abbrev pub Restoring1 : ℕ → (LockName → Seen) → State → List Hold → List (List Resource) → Type 0
+Restoring1 d bs s done ts = Restored (is_name_of d s) bs s.nodes (closed d s).homes s.tables done ts
 
-reclaim-next : (be : Option Mode) (d : ℕ) (bs : List Block) (s : State) (done rest : List Hold) (h : Hold) (ts : List (List Resource)) (vs : List Version)
+reclaim-next : (be : Option Mode) (d : ℕ) (bs : LockName → Seen) (s : State) (done rest : List Hold) (h : Hold) (ts : List (List Resource)) (vs : List Version)
     → IsSound s → h.belief ≡ be → claims_of d s ≡ done ++ (h ∷ rest) → is_name_of d s h.name ≡ true → Restoring1 d bs s done ts
     → ((us : List (List Resource)) (ws : List Version) → Restoring1 d bs s (done ++ (h ∷ [])) us → Reclaims d bs s rest us ws)
     → Reclaims d bs s (h ∷ rest) ts vs
 reclaim-next None d bs s done rest h ts vs i e all m r next =
     let once : each_once (done ++ (h ∷ rest)) ≡ true = subst (λ (hs : List Hold). each_once hs ≡ true) all (once-filter (λ k. is_name_of d s k.name) s.claims i.claimed_once) in
-    let n = next ts vs (restore-none (is_name_of d s) (vals_of bs) s.nodes (closed d s).homes s.tables done rest h ts once e r) in
-    record { tables = n.tables; versions = n.versions; is = ap (λ (be : Option Mode). reclaimed bs rest (reclaimed_lock h be (best_block h.name bs) (with_tables (closed d s) ts vs))) e ∙ n.is; all = n.all; steps = λ p a. n.steps p a.1 }
+    let n = next ts vs (restore-none (is_name_of d s) bs s.nodes (closed d s).homes s.tables done rest h ts once e r) in
+    record { tables = n.tables; versions = n.versions; is = ap (λ (be : Option Mode). reclaimed bs rest (reclaimed_lock h be (bs h.name) (with_tables (closed d s) ts vs))) e ∙ n.is; all = n.all; steps = λ p a. n.steps p a.1; noted = λ x a. n.noted x (elim a [ inl f ↦ inl (lock-behind x h rest (not-lock x h e) f) | inr f ↦ inr f ]) }
 reclaim-next (Some b) d bs s done rest h ts vs i e all m r next =
     let once : each_once (done ++ (h ∷ rest)) ≡ true = subst (λ (hs : List Hold). each_once hs ≡ true) all (once-filter (λ k. is_name_of d s k.name) s.claims i.claimed_once) in
     let go : GoTogether (done ++ (h ∷ rest)) = subst (λ (hs : List Hold). GoTogether hs) all (together-filter (is_name_of d s) s.claims i.claimed_together) in
     let z : State = with_tables (closed d s) ts vs in
-    let after : State = reclaimed_lock h (Some b) (best_block h.name bs) z in
-    let k : Message = again h b (best_block h.name bs) z in
+    let after : State = reclaimed_lock h (Some b) (bs h.name) z in
+    let k : Message = again h b (bs h.name) z in
     let t : List Resource = table_at (home s.nodes h.name) ts in
     let old : Option Mode = mode_of h.owner (resource_at h.name t).askers in
-    let none = claim-none (is_name_of d s) (vals_of bs) s.nodes (closed d s).homes s.tables done rest h ts once m r in
+    let none = claim-none (is_name_of d s) bs s.nodes (closed d s).homes s.tables done rest h ts once m r in
     let makes : MakesCall k t (ask_made k old b t) = one-ask k b t None old refl none refl (can-mode None (standing_of h.owner (resource_at h.name t).askers) none) in
-    let is_claim : (p : State) → IsClaimable p bs h → IsClaimOf p k = λ p a. record { claim = h; made = a.made; of_owner = refl; on_name = refl; mode = b; asks = refl; claims = inl e; block = a.block } in
+    let is_claim : (p : State) → IsClaimable p bs h → IsClaimOf p k = λ p a. record { claim = h; made = a.made; of_owner = refl; on_name = refl; mode = b; asks = refl; claims = inl e; block = ap (λ (v : Seen). v.value) a.block } in
     let n = next after.tables after.versions
-    (restore-one (is_name_of d s) (vals_of bs) s.nodes (closed d s).homes s.tables done rest h b (again h b (best_block h.name bs) z) ts i.some_node once go m e refl refl refl (open-closed d h.name s m) r) in
-    record { tables = n.tables; versions = n.versions; is = ap (λ (be : Option Mode). reclaimed bs rest (reclaimed_lock h be (best_block h.name bs) z)) e ∙ n.is; all = n.all; steps = λ p a. leads-then s.nodes p k ts after.tables n.tables (Restores (ask_made k old b t) a.0.due (is_claim p a.0) makes refl) (n.steps p a.1) }
+    (restore-one (is_name_of d s) bs s.nodes (closed d s).homes s.tables done rest h b (again h b (bs h.name) z) ts i.some_node once go m e refl refl refl (open-closed d h.name s m) r) in
+    record { tables = n.tables; versions = n.versions; is = ap (λ (be : Option Mode). reclaimed bs rest (reclaimed_lock h be (bs h.name) z)) e ∙ n.is; all = n.all; steps = λ p a. leads-then s.nodes p k ts after.tables n.tables (Restores (ask_made k old b t) a.0.due (is_claim p a.0) makes (ap (λ (v : Seen). set ts (home s.nodes h.name - 1) (recovered h.name k.value v.valid (ask_made k old b t))) a.0.block)) (n.steps p a.1); noted = λ x a. n.noted x (noted-next x bs h rest vs a) }
 
-pub reclaim-all : (d : ℕ) (bs : List Block) (s : State) (rest done : List Hold) (ts : List (List Resource)) (vs : List Version) → IsSound s → claims_of d s ≡ done ++ rest → list_all (λ h. is_name_of d s h.name) rest ≡ true
+pub reclaim-all : (d : ℕ) (bs : LockName → Seen) (s : State) (rest done : List Hold) (ts : List (List Resource)) (vs : List Version) → IsSound s → claims_of d s ≡ done ++ rest → list_all (λ h. is_name_of d s h.name) rest ≡ true
     → Restoring1 d bs s done ts → Reclaims d bs s rest ts vs
 reclaim-all d bs s [] done ts vs i all m r =
     let e : done ≡ claims_of d s = sym (all ∙ append-nil done) in
-    record { tables = ts; versions = vs; is = refl; all = subst (λ (hs : List Hold). Restoring1 d bs s hs ts) e r; steps = λ p a. leads-here s.nodes p ts ts refl }
+    record { tables = ts; versions = vs; is = refl; all = subst (λ (hs : List Hold). Restoring1 d bs s hs ts) e r; steps = λ p a. leads-here s.nodes p ts ts refl; noted = λ x a. elim a [ inl f ↦ cc | inr f ↦ f ] }
 reclaim-all d bs s (h ∷ rest) done ts vs i all m r =
     reclaim-next h.belief d bs s done rest h ts vs i refl all (list_all-head (λ (k : Hold). is_name_of d s k.name) h rest m) r
     (λ us ws n. reclaim-all d bs s rest (done ++ (h ∷ [])) us ws i (all ∙ sym (append_assoc done (h ∷ []) rest)) (list_all-tail (λ (k : Hold). is_name_of d s k.name) h rest m) n)
@@ -388,13 +423,13 @@ pub none-some : (o : Option ℕ) → is_some o ≡ false → o ≡ None
 none-some None e = refl
 none-some (Some k) e = cc
 
-pub asked-next : (R : State → Type 0) (w : Option Mode) (h : Hold) (hs : List Hold) (bs : List Block) (ms : List Message) (z : State) → recovery h.name z ≡ None → list_all (λ k. not (is_some (recovery k.name z))) hs ≡ true
-    → IsSound (front ((asks_one w (best_block h.name bs) (master h.name z) h ++ asks_of bs (λ x. master x z) hs) ++ ms) z)
+pub asked-next : (R : State → Type 0) (w : Option Mode) (h : Hold) (hs : List Hold) (bs : LockName → Seen) (ms : List Message) (z : State) → recovery h.name z ≡ None → list_all (λ k. not (is_some (recovery k.name z))) hs ≡ true
+    → IsSound (front ((asks_one w (bs h.name) (master h.name z) h ++ asks_of bs (λ x. master x z) hs) ++ ms) z)
     → ((y : State) → list_all (λ k. not (is_some (recovery k.name y))) hs ≡ true → IsSound (front (asks_of bs (λ x. master x y) hs ++ ms) y) → R y)
-    → R (asked_again h w (best_block h.name bs) z)
+    → R (asked_again h w (bs h.name) z)
 asked-next R None h hs bs ms z n t i next = next z t i
 asked-next R (Some w) h hs bs ms z n t i next =
-    let b : Block = best_block h.name bs in
+    let b : Seen = bs h.name in
     let m : Message = again h w b z in
     let rest : List Message = asks_of bs (λ x. master x z) hs ++ ms in
     let s : State = front (m ∷ rest) z in
@@ -406,13 +441,13 @@ asked-next R (Some w) h hs bs ms z n t i next =
     let c1 : Call s m (rest ++ z.mail) (ask_made m old w t1) (put_last m old w z.queue) =
     subst (λ (ns : List Message). Call s m ns (ask_made m old w t1) (put_last m old w z.queue)) (past-front m (rest ++ z.mail)) c0 in
     let st = ask-stands s m.from m.to m w i a refl in
-    let c2 = call-again s m (rest ++ z.mail) (ask_made m old w t1) (put_last m old w z.queue) m.value st.0 c1 st.1 in
+    let c2 = call-again s m (rest ++ z.mail) (ask_made m old w t1) (put_last m old w z.queue) m.value b.valid st.0 c1 st.1 in
     let after : State = asked_again h (Some w) b z in
-    let so = served-sound _ (call-sound s m (rest ++ z.mail) (made_again m old w t1) (put_last m old w z.queue) after.versions i c2) in
-    let now : List Message = grants_of (called_so s m.name (rest ++ z.mail) (made_again m old w t1) (put_last m old w z.queue) after.versions) (put_last m old w z.queue) in
+    let so = served-sound _ (call-sound s m (rest ++ z.mail) (made_again b.valid m old w t1) (put_last m old w z.queue) after.versions i c2) in
+    let now : List Message = grants_of (called_so s m.name (rest ++ z.mail) (made_again b.valid m old w t1) (put_last m old w z.queue) after.versions) (put_last m old w z.queue) in
     next after t (subst (λ (ns : List Message). IsSound (record after { mail = ns })) (append_assoc rest z.mail now) so)
 
-pub all-asked : (hs : List Hold) (bs : List Block) (ms : List Message) (z : State) → list_all (λ k. not (is_some (recovery k.name z))) hs ≡ true
+pub all-asked : (hs : List Hold) (bs : LockName → Seen) (ms : List Message) (z : State) → list_all (λ k. not (is_some (recovery k.name z))) hs ≡ true
     → IsSound (front (asks_of bs (λ x. master x z) hs ++ ms) z) → IsSound (front ms (all_asked_again bs hs z))
 all-asked [] bs ms z n i = i
 all-asked (h ∷ hs) bs ms z n i =
@@ -420,23 +455,23 @@ all-asked (h ∷ hs) bs ms z n i =
     (list_all-tail (λ (k : Hold). not (is_some (recovery k.name z))) h hs n) i (λ y t j. all-asked hs bs ms y t j)
 
 -- homes stay
-asked-homes : (w : Option Mode) (h : Hold) (b : Block) (z : State) → (asked_again h w b z).homes ≡ z.homes
+asked-homes : (w : Option Mode) (h : Hold) (b : Seen) (z : State) → (asked_again h w b z).homes ≡ z.homes
 asked-homes None h b z = refl
 asked-homes (Some w) h b z = refl
 
-pub asked-nodes : (w : Option Mode) (h : Hold) (b : Block) (z : State) → (asked_again h w b z).nodes ≡ z.nodes
+pub asked-nodes : (w : Option Mode) (h : Hold) (b : Seen) (z : State) → (asked_again h w b z).nodes ≡ z.nodes
 asked-nodes None h b z = refl
 asked-nodes (Some w) h b z = refl
 
-all-asked-homes : (hs : List Hold) (bs : List Block) (z : State) → (all_asked_again bs hs z).homes ≡ z.homes
+all-asked-homes : (hs : List Hold) (bs : LockName → Seen) (z : State) → (all_asked_again bs hs z).homes ≡ z.homes
 all-asked-homes [] bs z = refl
-all-asked-homes (h ∷ hs) bs z = all-asked-homes hs bs (asked_again_one bs h z) ∙ asked-homes h.wait h (best_block h.name bs) z
+all-asked-homes (h ∷ hs) bs z = all-asked-homes hs bs (asked_again_one bs h z) ∙ asked-homes h.wait h (bs h.name) z
 
-pub all-asked-nodes : (hs : List Hold) (bs : List Block) (z : State) → (all_asked_again bs hs z).nodes ≡ z.nodes
+pub all-asked-nodes : (hs : List Hold) (bs : LockName → Seen) (z : State) → (all_asked_again bs hs z).nodes ≡ z.nodes
 all-asked-nodes [] bs z = refl
-all-asked-nodes (h ∷ hs) bs z = all-asked-nodes hs bs (asked_again_one bs h z) ∙ asked-nodes h.wait h (best_block h.name bs) z
+all-asked-nodes (h ∷ hs) bs z = all-asked-nodes hs bs (asked_again_one bs h z) ∙ asked-nodes h.wait h (bs h.name) z
 
-pub recovery-asked : (hs : List Hold) (bs : List Block) (z : State) (x : LockName) → recovery x (all_asked_again bs hs z) ≡ recovery x z
+pub recovery-asked : (hs : List Hold) (bs : LockName → Seen) (z : State) (x : LockName) → recovery x (all_asked_again bs hs z) ≡ recovery x z
 recovery-asked hs bs z x =
     ap (λ (k : ℕ). (home_at (home k x) (all_asked_again bs hs z).homes).recovers) (all-asked-nodes hs bs z) ∙ ap (λ (ks : List Home). (home_at (home z.nodes x) ks).recovers) (all-asked-homes hs bs z)
 
@@ -487,7 +522,7 @@ open-kept d s c k h =
 pub ended-sound : (d : ℕ) (s : State) → IsSound s → IsSound (ended d s)
 ended-sound d s i =
     let c : State = closed d s in
-    let bs : List Block = filter (λ b. is_with true d s b.name) s.claimed_blocks in
+    let bs : LockName → Seen = block_for s.rule (filter (λ h. is_with true d s h.name) s.claims) (filter (λ b. is_with true d s b.name) s.claimed_blocks) in
     let hs : List Hold = claims_of d s in
     let ks : List Message = kept_of d s in
     let r = reclaim-all d bs s hs [] s.tables s.versions i refl (list_all-passing (λ h. is_name_of d s h.name) s.claims) (restore-start d bs s i) in

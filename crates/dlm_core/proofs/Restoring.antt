@@ -22,9 +22,10 @@ use Rattle.lock_db.proofs.Steps.{IsSettled-at, IsTable-asked, IsTable-recovered}
 use Rattle.lock_db.proofs.Blocks.{asked-leaves, recovered-leaves, recovered-at}
 use Rattle.lock_db.proofs.Standings.{requests-stand}
 use Rattle.dlm_core.specs.declared.holds.Hold.{Hold}
+use Rattle.dlm_core.specs.declared.blocks.Seen.{Seen}
 use Rattle.dlm_core.specs.declared.homes.Home.{Home}
 use Rattle.dlm_core.specs.declared.messages.Message.{Message}
-use Rattle.dlm_core.specs.States.{home, home_at, table_at, is_at, hold_at}
+use Rattle.dlm_core.specs.States.{home, home_at, table_at, is_at, unseen, hold_at}
 use Rattle.dlm_core.specs.Steps.{stands_as}
 use Rattle.dlm_core.specs.Recoveries.{made_again}
 use Rattle.dlm_core.specs.Lanes.{each_once, GoTogether}
@@ -68,9 +69,9 @@ none-before (k ∷ done) rest h e =
 
 -- what is believed by what stands in the list so far
 abbrev pub nothing_of : Owner → LockName → Hold
-nothing_of o x = record { owner = o; name = x; belief = None; wait = None }
+nothing_of o x = record { owner = o; name = x; belief = None; wait = None; seen = unseen }
 
-hold-none : (o : Owner) (x : LockName) (hs : List Hold) → list_any (is_at o x) hs ≡ false → hold_at o x hs ≡ nothing_of o x
+pub hold-none : (o : Owner) (x : LockName) (hs : List Hold) → list_any (is_at o x) hs ≡ false → hold_at o x hs ≡ nothing_of o x
 hold-none o x hs e = ap (λ (f : Option Hold). unwrap_or f (nothing_of o x)) (find-none (is_at o x) hs e)
 
 hold-here : (h : Hold) (done : List Hold) → list_any (is_at h.owner h.name) done ≡ false → hold_at h.owner h.name (done ++ (h ∷ [])) ≡ h
@@ -136,15 +137,15 @@ has-push p h [] n e = let k : (p h || false) ≡ false = rw n refl in absurd (le
 has-push p h (k ∷ done) n e =
     (elim (p k) as (λ b. (b || list_any p (done ++ (h ∷ []))) ≡ true → (b || list_any p done) ≡ true) [ true ↦ λ f. refl | false ↦ λ f. has-push p h done n f ]) e
 
-not-lock : (x : LockName) (h : Hold) → h.belief ≡ None → (is_same h.name x && is_some h.belief) ≡ false
+pub not-lock : (x : LockName) (h : Hold) → h.belief ≡ None → (is_same h.name x && is_some h.belief) ≡ false
 not-lock x h e = rw e (elim (is_same h.name x) as (λ b. (b && false) ≡ false) [ true ↦ refl | false ↦ refl ])
 
-other-lock : (x : LockName) (h : Hold) → is_same h.name x ≡ false → (is_same h.name x && is_some h.belief) ≡ false
+pub other-lock : (x : LockName) (h : Hold) → is_same h.name x ≡ false → (is_same h.name x && is_some h.belief) ≡ false
 other-lock x h e = rw e refl
 
 -- What the tables have while the claimed locks are granted: of the names that are recovered, the locks so far; of all others what
 -- they had.
-pub record Restored (mine : LockName → Bool) (vals : LockName → List ℕ) (n : ℕ) (homes : List Home) (old : List (List Resource)) (done : List Hold) (ts : List (List Resource)) : Type 0 where
+pub record Restored (mine : LockName → Bool) (vals : LockName → Seen) (n : ℕ) (homes : List Home) (old : List (List Resource)) (done : List Hold) (ts : List (List Resource)) : Type 0 where
   pub length_is : length ts ≡ n
   pub tables_are : (k : ℕ) → IsTable (table_at k ts)
   pub ours : (o : Owner) (x : LockName) → mine x ≡ true → standing_of o (resource_at x (table_at (home n x) ts)).askers ≡ stands_as (hold_at o x done).belief
@@ -160,7 +161,7 @@ belief-none o x h done e n =
       | false ↦ λ a. ap (λ (k : Hold). k.belief) (hold-other o x h done a)
     ]) refl
 
-pub restore-none : (mine : LockName → Bool) (vals : LockName → List ℕ) (n : ℕ) (homes : List Home) (old : List (List Resource)) (done rest : List Hold) (h : Hold) (ts : List (List Resource)) → each_once (done ++ (h ∷ rest)) ≡ true → h.belief ≡ None
+pub restore-none : (mine : LockName → Bool) (vals : LockName → Seen) (n : ℕ) (homes : List Home) (old : List (List Resource)) (done rest : List Hold) (h : Hold) (ts : List (List Resource)) → each_once (done ++ (h ∷ rest)) ≡ true → h.belief ≡ None
     → Restored mine vals n homes old done ts → Restored mine vals n homes old (done ++ (h ∷ [])) ts
 restore-none mine vals n homes old done rest h ts once e r = record {
   length_is = r.length_is;
@@ -172,41 +173,41 @@ restore-none mine vals n homes old done rest h ts once e r = record {
 }
 
 -- a claimed lock
-pub record Grant1 (h : Hold) (b : Mode) (v : List ℕ) (t t2 : List Resource) : Type 0 where
+pub record Grant1 (h : Hold) (b : Mode) (v : Seen) (t t2 : List Resource) : Type 0 where
   pub table : IsTable t2
   pub leaves : LeavesOthers h.name t t2
   pub own : standing_of h.owner (resource_at h.name t2).askers ≡ Some (Granted b)
   pub block : IsRead v (resource_at h.name t2)
   pub beside : (p : Owner) → same_owner h.owner p ≡ false → standing_of p (resource_at h.name t2).askers ≡ standing_of p (resource_at h.name t).askers
 
-grant-one : (h : Hold) (b : Mode) (m : Message) (t : List Resource) → m.owner ≡ h.owner → m.name ≡ h.name → IsTable t → standing_of h.owner (resource_at h.name t).askers ≡ None → goes_at_once h.owner b (resource_at h.name t).askers ≡ true
-    → Grant1 h b m.value t (made_again m (mode_of m.owner (resource_at m.name t).askers) b t)
-grant-one h b m t mo mn tab none go =
+grant-one : (h : Hold) (b : Mode) (v : Seen) (m : Message) (t : List Resource) → m.value ≡ v.value → m.owner ≡ h.owner → m.name ≡ h.name → IsTable t → standing_of h.owner (resource_at h.name t).askers ≡ None → goes_at_once h.owner b (resource_at h.name t).askers ≡ true
+    → Grant1 h b v t (made_again v.valid m (mode_of m.owner (resource_at m.name t).askers) b t)
+grant-one h b v m t mv mo mn tab none go =
     let o : Owner = h.owner in
     let x : LockName = h.name in
     let t1 : List Resource = asked x o b t in
     let stand : standing_of o (resource_at x t1).askers ≡ Some (Granted b) = requests-stand x o b t none ∙ ap (λ (c : Bool). Some (first_standing c b)) go in
-    let same : (resource_at x (recovered x m.value t1)).askers ≡ (resource_at x t1).askers = askers-recovered x m.value t1 (used-by x o t1 (Granted b) stand) in
+    let same : (resource_at x (recovered x m.value v.valid t1)).askers ≡ (resource_at x t1).askers = askers-recovered x m.value v.valid t1 (used-by x o t1 (Granted b) stand) in
     let fits = fits-so (record m { owner = o; name = x }) b None t none refl in
-    let g : Grant1 h b m.value t (recovered x m.value t1) = record {
-      table = IsTable-recovered x m.value t1 (IsTable-asked x o b t tab none);
-      leaves = λ y d. recovered-leaves x m.value t1 y d ∙ asked-leaves x o b t y d;
+    let g : Grant1 h b v t (recovered x m.value v.valid t1) = record {
+      table = IsTable-recovered x m.value v.valid t1 (IsTable-asked x o b t tab none);
+      leaves = λ y d. recovered-leaves x m.value v.valid t1 y d ∙ asked-leaves x o b t y d;
       own = rw same stand;
-      block = rw (recovered-at x m.value t1 (used-by x o t1 (Granted b) stand)) (record { bytes_are = refl; mark_is = refl });
+      block = rw (recovered-at x m.value v.valid t1 (used-by x o t1 (Granted b) stand)) (record { bytes_are = mv; mark_is = refl });
       beside = λ p d. rw same (asked-other x p o b t d);
     } in
     let old : mode_of o (resource_at x t).askers ≡ None = can-mode None (standing_of o (resource_at x t).askers) none in
     rw (mo, mn, old, fits) g
 
-pub claim-none : (mine : LockName → Bool) (vals : LockName → List ℕ) (n : ℕ) (homes : List Home) (old : List (List Resource)) (done rest : List Hold) (h : Hold) (ts : List (List Resource)) → each_once (done ++ (h ∷ rest)) ≡ true → mine h.name ≡ true
+pub claim-none : (mine : LockName → Bool) (vals : LockName → Seen) (n : ℕ) (homes : List Home) (old : List (List Resource)) (done rest : List Hold) (h : Hold) (ts : List (List Resource)) → each_once (done ++ (h ∷ rest)) ≡ true → mine h.name ≡ true
     → Restored mine vals n homes old done ts → standing_of h.owner (resource_at h.name (table_at (home n h.name) ts)).askers ≡ None
 claim-none mine vals n homes old done rest h ts once mi r = r.ours h.owner h.name mi ∙ ap (λ (k : Hold). stands_as k.belief) (hold-none h.owner h.name done (none-before done rest h once))
 
-pub restore-one : (mine : LockName → Bool) (vals : LockName → List ℕ) (n : ℕ) (homes : List Home) (old : List (List Resource)) (done rest : List Hold) (h : Hold) (b : Mode) (m : Message) (ts : List (List Resource))
-    → 1 ≤ n → each_once (done ++ (h ∷ rest)) ≡ true → GoTogether (done ++ (h ∷ rest)) → mine h.name ≡ true → h.belief ≡ Some b → m.owner ≡ h.owner → m.name ≡ h.name → m.value ≡ vals h.name
+pub restore-one : (mine : LockName → Bool) (vals : LockName → Seen) (n : ℕ) (homes : List Home) (old : List (List Resource)) (done rest : List Hold) (h : Hold) (b : Mode) (m : Message) (ts : List (List Resource))
+    → 1 ≤ n → each_once (done ++ (h ∷ rest)) ≡ true → GoTogether (done ++ (h ∷ rest)) → mine h.name ≡ true → h.belief ≡ Some b → m.owner ≡ h.owner → m.name ≡ h.name → m.value ≡ (vals h.name).value
     → (home_at (home n h.name) homes).recovers ≡ None
     → Restored mine vals n homes old done ts
-    → Restored mine vals n homes old (done ++ (h ∷ [])) (set ts (home n h.name - 1) (made_again m (mode_of m.owner (resource_at m.name (table_at (home n h.name) ts)).askers) b (table_at (home n h.name) ts)))
+    → Restored mine vals n homes old (done ++ (h ∷ [])) (set ts (home n h.name - 1) (made_again (vals h.name).valid m (mode_of m.owner (resource_at m.name (table_at (home n h.name) ts)).askers) b (table_at (home n h.name) ts)))
 restore-one mine vals n homes old done rest h b m ts l once go mi be mo mn mv op r =
     let x : LockName = h.name in
     let t : List Resource = table_at (home n x) ts in
@@ -214,11 +215,11 @@ restore-one mine vals n homes old done rest h b m ts l once go mi be mo mn mv op
     let gone = none-before done rest h once in
     let none : standing_of h.owner (resource_at x t).askers ≡ None = r.ours h.owner x mi ∙ ap (λ (k : Hold). stands_as k.belief) (hold-none h.owner x done gone) in
     let goes_on = at-once x done rest h b (resource_at x t).askers (IsSettled-at x t tab).together refl be once go (λ o. r.ours o x mi) in
-    let g = grant-one h b m t mo mn tab none goes_on in
-    let t2 : List Resource = made_again m (mode_of m.owner (resource_at m.name t).askers) b t in
+    let g = grant-one h b (vals x) m t mv mo mn tab none goes_on in
+    let t2 : List Resource = made_again (vals x).valid m (mode_of m.owner (resource_at m.name t).askers) b t in
     let now : List (List Resource) = set ts (home n x - 1) t2 in
     let here : (o : Owner) → standing_of o (resource_at x (table_at (home n x) now)).askers ≡ stands_as (hold_at o x (done ++ (h ∷ []))).belief =
-    λ o. ap (λ (z : Resource). standing_of o z.askers) (told-here n x ts t2 l r.length_is) ∙ own-or-other h b done o m.value t t2 g gone be (r.ours o x mi) in
+    λ o. ap (λ (z : Resource). standing_of o z.askers) (told-here n x ts t2 l r.length_is) ∙ own-or-other h b done o (vals x) t t2 g gone be (r.ours o x mi) in
     record {
       length_is = length-set ts (home n x - 1) t2 ∙ r.length_is;
       tables_are = tables-set ts (home n x) t2 (home-low n x) (rw r.length_is (home-high n x l)) g.table r.tables_are;
@@ -230,7 +231,7 @@ restore-one mine vals n homes old done rest h b m ts l once go mi be mo mn mv op
             ap (λ (z : Resource). standing_of o z.askers) (told-other n x y ts t2 l r.length_is d g.leaves) ∙ r.ours o y my ∙ ap (λ (k : Hold). stands_as k.belief) (sym (hold-other o y h done out))
       ]) refl;
       blocks = λ y my f. (elim (is_same x y) as (λ c. is_same x y ≡ c → IsRead (vals y) (resource_at y (table_at (home n y) now))) [
-        | true ↦ λ e. subst (λ (z : LockName). IsRead (vals z) (resource_at z (table_at (home n z) now))) (is_same-same x y e) (rw (told-here n x ts t2 l r.length_is, ← mv) g.block)
+        | true ↦ λ e. subst (λ (z : LockName). IsRead (vals z) (resource_at z (table_at (home n z) now))) (is_same-same x y e) (rw (told-here n x ts t2 l r.length_is) g.block)
         | false ↦ λ e.
             let d : y ≢ x = λ k. absurd (let q : true ≡ false = sym (is_same-refl x) ∙ ap (is_same x) (sym k) ∙ e in cc) in
             rw (told-other n x y ts t2 l r.length_is d g.leaves) (r.blocks y my (has-push (λ (k : Hold). is_same k.name y && is_some k.belief) h done (other-lock y h e) f))
@@ -241,7 +242,7 @@ restore-one mine vals n homes old done rest h b m ts l once go mi be mo mn mv op
       lost = λ k e. lost-still homes n x ts t2 op k e (r.lost k e);
     }
   where
-    own-or-other : (h : Hold) (b : Mode) (done : List Hold) (o : Owner) (v : List ℕ) (t t2 : List Resource) → Grant1 h b v t t2 → list_any (is_at h.owner h.name) done ≡ false → h.belief ≡ Some b
+    own-or-other : (h : Hold) (b : Mode) (done : List Hold) (o : Owner) (v : Seen) (t t2 : List Resource) → Grant1 h b v t t2 → list_any (is_at h.owner h.name) done ≡ false → h.belief ≡ Some b
         → standing_of o (resource_at h.name t).askers ≡ stands_as (hold_at o h.name done).belief → standing_of o (resource_at h.name t2).askers ≡ stands_as (hold_at o h.name (done ++ (h ∷ []))).belief
     own-or-other h b done o v t t2 g gone be before =
         (elim (same_owner h.owner o) as (λ c. same_owner h.owner o ≡ c → standing_of o (resource_at h.name t2).askers ≡ stands_as (hold_at o h.name (done ++ (h ∷ []))).belief) [

@@ -46,7 +46,7 @@ lowered-under (Some k) (Drop ∷ ls) b e = let u = lowered-under None ls b e in 
 lowered-under (Some k) (Grant w v ∷ ls) b e = cc
 lowered-under (Some k) (Claim d ∷ ls) b e = cc
 
-held-stands : (lock : Option Mode) → option_and_then held (stands_as lock) ≡ lock
+pub held-stands : (lock : Option Mode) → option_and_then held (stands_as lock) ≡ lock
 held-stands None = refl
 held-stands (Some m) = refl
 
@@ -67,7 +67,7 @@ has-asker owner m xs e =
     (elim (find (λ (x : Asker). same_owner x.owner owner) xs) as (λ f. find (λ (x : Asker). same_owner x.owner owner) xs ≡ f → option_and_then held (option_map (λ (a : Asker). a.standing) f) ≡ Some m → HasAsker owner m xs)
     [ None ↦ λ f g. cc | Some a ↦ λ f g. record { asker = a; found = f; holds = g } ]) refl e
 
-granted-together : (a b : Owner) (m n : Mode) (xs : List Asker) → all_together xs ≡ true → a ≢ b → option_and_then held (standing_of a xs) ≡ Some m → option_and_then held (standing_of b xs) ≡ Some n
+pub granted-together : (a b : Owner) (m n : Mode) (xs : List Asker) → all_together xs ≡ true → a ≢ b → option_and_then held (standing_of a xs) ≡ Some m → option_and_then held (standing_of b xs) ≡ Some n
     → goes_beside m (Some n) ≡ true
 granted-together a b m n xs t d e f =
     let p = has-asker a m xs e in

@@ -15,10 +15,11 @@ use Rattle.dlm_core.specs.declared.messages.Letter.{Letter}
 use Rattle.dlm_core.specs.declared.messages.Letter.TheVariants.{Ask, Drop, Grant, Claim}
 use Rattle.dlm_core.specs.declared.messages.Message.{Message}
 use Rattle.dlm_core.specs.declared.holds.Hold.{Hold}
+use Rattle.dlm_core.specs.declared.rules.BlockRule.{BlockRule}
 use Rattle.dlm_core.specs.declared.queue.Waiter.{Waiter}
 use Rattle.dlm_core.specs.Modes.{lowers, crosses}
 use Rattle.dlm_core.specs.States.{State, home, own_home, master, recovery, hold_at, noted, asked_hold, is_at, start}
-use Rattle.dlm_core.specs.Steps.{is_call, stands_as, call_to, called, ask_after, drop_after}
+use Rattle.dlm_core.specs.Steps.{seen_after, is_call, stands_as, call_to, called, ask_after, drop_after}
 use Rattle.dlm_core.specs.Lanes.{is_about, has_kind, is_kind, letters_of, waiters_of, IsLane, IsClaimed, LaneOf, LaneAt, last_ask, standing_at, goes_between, is_addressed, IsSound}
 use Rattle.dlm_core.specs.Lanes.IsLane.{Sends}
 use Rattle.dlm_core.proofs.Mails.{letters-append, letters-one, letters-none}
@@ -26,37 +27,37 @@ use Rattle.dlm_core.proofs.Beliefs.{at-owner, at-name, at-itself, noted-here, no
 use Rattle.dlm_core.proofs.Growing.{lane-lowered, lane-asked, lane-dropped}
 
 -- nobody has asked for anything
-own-recovers : (ns : List ℕ) (i : ℕ) → (get_or (map own_home ns) i (record { master = 0; recovers = None })).recovers ≡ None
+pub own-recovers : (ns : List ℕ) (i : ℕ) → (get_or (map own_home ns) i (record { master = 0; recovers = None })).recovers ≡ None
 own-recovers [] i = refl
 own-recovers (n ∷ ns) zero = refl
 own-recovers (n ∷ ns) (suc i) = own-recovers ns i
 
-start-empty : (n i : ℕ) → get_or (start n).tables i [] ≡ []
-start-empty zero i = refl
-start-empty (suc n) zero = refl
-start-empty (suc n) (suc i) = start-empty n i
+pub start-empty : (rule : BlockRule) (n i : ℕ) → get_or (start rule n).tables i [] ≡ []
+start-empty rule zero i = refl
+start-empty rule (suc n) zero = refl
+start-empty rule (suc n) (suc i) = start-empty rule n i
 
-start-lane : (n : ℕ) (o : Owner) (x : LockName) → LaneOf None o x (start n)
-start-lane n o x =
-    let st : standing_at o x (start n) ≡ None = ap (λ (t : List Resource). standing_of o (resource_at x t).askers) (start-empty n (home n x - 1)) in
+start-lane : (rule : BlockRule) (n : ℕ) (o : Owner) (x : LockName) → LaneOf None o x (start rule n)
+start-lane rule n o x =
+    let st : standing_at o x (start rule n) ≡ None = ap (λ (t : List Resource). standing_of o (resource_at x t).askers) (start-empty rule n (home n x - 1)) in
     Sends None [] st refl refl refl refl tt
 
 pub empty-table : IsTable []
 empty-table = record { ordered = refl; used = refl; settled_all = tt }
 
-pub start-sound : (n : ℕ) → 1 ≤ n → IsSound (start n)
-start-sound n l = record {
+pub start-sound : (rule : BlockRule) (n : ℕ) → 1 ≤ n → IsSound (start rule n)
+start-sound rule n l = record {
   some_node = l;
   each_has_one = length-replicate n [];
   each_has_master = length-map-range_with_len own_home 1 n;
-  tables_are = λ k. subst (λ (t : List Resource). IsTable t) (sym (start-empty n (k - 1))) empty-table;
-  lost = λ k r. start-empty n (k - 1);
+  tables_are = λ k. subst (λ (t : List Resource). IsTable t) (sym (start-empty rule n (k - 1))) empty-table;
+  lost = λ k r. start-empty rule n (k - 1);
   addressed = refl;
   kept_back = refl;
   once = refl;
   claimed_once = refl;
   claimed_together = λ a b x m k d e f. cc;
-  lanes = λ o x. subst (λ (d : Option ℕ). LaneOf d o x (start n)) (sym (own-recovers (range_with_len 1 n) (home n x - 1))) (start-lane n o x);
+  lanes = λ o x. subst (λ (d : Option ℕ). LaneOf d o x (start rule n)) (sym (own-recovers (range_with_len 1 n) (home n x - 1))) (start-lane rule n o x);
 }
 
 -- an owner's call is noted and sent
@@ -108,10 +109,14 @@ called-grants s old h l fill e =
     let grant : is_kind true h.owner h.name m ≡ false = rw (call-kind true l e) refl in
     letters-append true h.owner h.name s.mail (m ∷ []) ∙ ap (λ (ls : List Letter). letters_of true h.owner h.name s.mail ++ ls) (letters-none true h.owner h.name m grant) ∙ append-nil (letters_of true h.owner h.name s.mail)
 
+-- what is noted of who has called
+abbrev pub calling : State → Option Mode → Hold → Letter → ℕ → Hold
+calling s old h l fill = record h { seen = seen_after old h (call_to h.owner h.name old l fill s) }
+
 called-own : (d : Option ℕ) (s : State) (old : Option Mode) (h : Hold) (l : Letter) (fill : ℕ) → is_call l ≡ true → More d h.owner h.name s (l ∷ []) h.belief h.wait → LaneOf d h.owner h.name (called old h l fill s)
-called-own None s old h l fill e lane = rw (called-calls s old h l fill e, called-grants s old h l fill e, noted-here h s.holds) lane
+called-own None s old h l fill e lane = rw (called-calls s old h l fill e, called-grants s old h l fill e, noted-here (calling s old h l fill) s.holds) lane
 called-own (Some d) s old h l fill e lane =
-    record { lane = rw (called-calls s old h l fill e, noted-here h s.holds) lane.lane; no_grants = called-grants s old h l fill e ∙ lane.no_grants; no_waiters = lane.no_waiters }
+    record { lane = rw (called-calls s old h l fill e, noted-here (calling s old h l fill) s.holds) lane.lane; no_grants = called-grants s old h l fill e ∙ lane.no_grants; no_waiters = lane.no_waiters }
 
 pub not-about : (g : Bool) (p : Owner) (y : LockName) (m : Message) → is_about p y m ≡ false → is_kind g p y m ≡ false
 not-about g p y m e = (elim (has_kind g m.letter) as (λ b. (b && is_about p y m) ≡ false) [ true ↦ e | false ↦ refl ])
@@ -121,12 +126,12 @@ called-other d s old h l fill p y e lane =
     let m : Message = call_to h.owner h.name old l fill s in
     let none : (g : Bool) → letters_of g p y (s.mail ++ (m ∷ [])) ≡ letters_of g p y s.mail =
     λ g. letters-append g p y s.mail (m ∷ []) ∙ ap (λ (ls : List Letter). letters_of g p y s.mail ++ ls) (letters-none g p y m (not-about g p y m e)) ∙ append-nil (letters_of g p y s.mail) in
-    called-kept d s old h l fill p y (none false) (none true) (noted-other p y h s.holds e) lane
+    called-kept d s old h l fill p y (none false) (none true) (noted-other p y (calling s old h l fill) s.holds e) lane
   where
     called-kept : (d : Option ℕ) (s : State) (old : Option Mode) (h : Hold) (l : Letter) (fill : ℕ) (p : Owner) (y : LockName)
         → letters_of false p y (s.mail ++ (call_to h.owner h.name old l fill s ∷ [])) ≡ letters_of false p y s.mail
         → letters_of true p y (s.mail ++ (call_to h.owner h.name old l fill s ∷ [])) ≡ letters_of true p y s.mail
-        → hold_at p y (noted h s.holds) ≡ hold_at p y s.holds → LaneOf d p y s → LaneOf d p y (called old h l fill s)
+        → hold_at p y (noted (calling s old h l fill) s.holds) ≡ hold_at p y s.holds → LaneOf d p y s → LaneOf d p y (called old h l fill s)
     called-kept None s old h l fill p y a b c lane = rw (a, b, c) lane
     called-kept (Some d) s old h l fill p y a b c lane = record { lane = rw (a, c) lane.lane; no_grants = b ∙ lane.no_grants; no_waiters = lane.no_waiters }
 
@@ -146,7 +151,7 @@ called-sound s old h l fill i e lane = record {
   addressed = list_all-joined (is_addressed s) s.mail (call_to h.owner h.name old l fill s ∷ []) i.addressed
       (and-both (is_addressed s (call_to h.owner h.name old l fill s)) true (call-between l (master h.name s) (call_to h.owner h.name old l fill s) e refl refl) refl);
   kept_back = i.kept_back;
-  once = once-noted h s.holds i.once;
+  once = once-noted (calling s old h l fill) s.holds i.once;
   claimed_once = i.claimed_once;
   claimed_together = i.claimed_together;
   lanes = λ p y. (elim (is_at p y h) as (λ b. is_at p y h ≡ b → LaneAt p y (called old h l fill s)) [

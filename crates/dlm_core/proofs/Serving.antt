@@ -38,7 +38,7 @@ filter-sent p y s (w ∷ ws) =
     (elim (is_of p y w) as (λ b. cond b (grant_of s w ∷ filter (is_kind true p y) (map (grant_of s) ws)) (filter (is_kind true p y) (map (grant_of s) ws)) ≡ map (grant_of s) (cond b (w ∷ filter (is_of p y) ws) (filter (is_of p y) ws)))
     [ true ↦ ap (λ (ms : List Message). grant_of s w ∷ ms) t | false ↦ t ])
 
-filter-calls : (p : Owner) (y : LockName) (s : State) (ws : List Waiter) → filter (is_kind false p y) (map (grant_of s) ws) ≡ []
+pub filter-calls : (p : Owner) (y : LockName) (s : State) (ws : List Waiter) → filter (is_kind false p y) (map (grant_of s) ws) ≡ []
 filter-calls p y s [] = refl
 filter-calls p y s (w ∷ ws) = filter-calls p y s ws
 

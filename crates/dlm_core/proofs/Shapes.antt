@@ -10,7 +10,7 @@ use Rattle.dlm_core.specs.declared.messages.Letter.TheVariants.{Ask, Drop, Grant
 use Rattle.dlm_core.specs.declared.messages.Message.{Message}
 use Rattle.dlm_core.specs.declared.holds.Hold.{Hold}
 use Rattle.dlm_core.specs.declared.homes.Home.{Home}
-use Rattle.dlm_core.specs.declared.blocks.Block.{Block}
+use Rattle.dlm_core.specs.declared.blocks.Seen.{Seen}
 use Rattle.dlm_core.specs.States.{State, IsShaped, home, table_at, told_at}
 use Rattle.dlm_core.specs.Steps.{served, with_table, taken_from, taken}
 use Rattle.dlm_core.specs.Recoveries.{settled_home, closed, reclaimed_lock, asked_again}
@@ -38,18 +38,18 @@ taken_shape m s i = taken-from m m.letter (mode_of m.owner (told_at m.name s).as
 pub closed_shape : (d : ℕ) (s : State) → IsShaped s → IsShaped (closed d s)
 closed_shape d s i = record { some_node = i.some_node; each_has_one = i.each_has_one; each_has_master = length-homes (settled_home d) s.homes ∙ i.each_has_master }
 
-reclaimed-from : (h : Hold) (be : Option Mode) (b : Block) (s : State) → IsShaped s → IsShaped (reclaimed_lock h be b s)
+reclaimed-from : (h : Hold) (be : Option Mode) (b : Seen) (s : State) → IsShaped s → IsShaped (reclaimed_lock h be b s)
 reclaimed-from h None b s i = i
 reclaimed-from h (Some mode) b s i = record { some_node = i.some_node; each_has_one = length-set s.tables (home s.nodes h.name - 1) _ ∙ i.each_has_one; each_has_master = i.each_has_master }
 
-pub reclaimed_shape : (h : Hold) (b : Block) (s : State) → IsShaped s → IsShaped (reclaimed_lock h h.belief b s)
+pub reclaimed_shape : (h : Hold) (b : Seen) (s : State) → IsShaped s → IsShaped (reclaimed_lock h h.belief b s)
 reclaimed_shape h b s i = reclaimed-from h h.belief b s i
 
-asked-from : (h : Hold) (w : Option Mode) (b : Block) (s : State) → IsShaped s → IsShaped (asked_again h w b s)
+asked-from : (h : Hold) (w : Option Mode) (b : Seen) (s : State) → IsShaped s → IsShaped (asked_again h w b s)
 asked-from h None b s i = i
 asked-from h (Some mode) b s i = record { some_node = i.some_node; each_has_one = length-set s.tables (home s.nodes h.name - 1) _ ∙ i.each_has_one; each_has_master = i.each_has_master }
 
-pub asked_shape : (h : Hold) (b : Block) (s : State) → IsShaped s → IsShaped (asked_again h h.wait b s)
+pub asked_shape : (h : Hold) (b : Seen) (s : State) → IsShaped s → IsShaped (asked_again h h.wait b s)
 asked_shape h b s i = asked-from h h.wait b s i
 
 pub length-bereft : (d : ℕ) (hs : List Home) (ts : List (List Resource)) → length (bereft_tables d hs ts) ≡ length ts

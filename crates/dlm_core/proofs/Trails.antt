@@ -1,5 +1,5 @@
 -- By which steps the tables change when recoveries end, and at a death.
-use Rattle.std.proofs.Common.{◌≡◌, ◌++◌, ◌&&◌, ◌==◌, ◌-◌, inr, ℕ, Bool, true, false, not, List, [], ◌∷◌, Option, Some, None, is_some, map, filter, set, refl, ap, sym, subst, ◌∙◌, cond, if◌then◌else◌, append_assoc, Contains}
+use Rattle.std.proofs.Common.{◌≡◌, ◌++◌, ◌&&◌, ◌==◌, ◌-◌, inr, ℕ, Bool, true, false, not, List, [], ◌∷◌, Option, Some, None, is_some, map, filter, set, find, refl, ap, sym, subst, ◌∙◌, cond, if◌then◌else◌, append_assoc, Contains}
 use Rattle.std.specs.List.{list_all, list_any}
 use Rattle.std.proofs.lemmas.List.{append-nil}
 use Rattle.plain_cat.specs.declared.mode.Mode.{Mode}
@@ -11,7 +11,7 @@ use Rattle.lock_db.specs.declared.resource.Resource.{Resource}
 use Rattle.lock_db.specs.Names.{is_same}
 use Rattle.lock_db.specs.Queues.{standing_of, mode_of}
 use Rattle.lock_db.specs.Resources.{fresh, is_used, is_writer_of, dropped_of}
-use Rattle.lock_db.specs.Tables.{resource_at, released, dropped, IsTable}
+use Rattle.lock_db.specs.Tables.{resource_at, released, dropped, recovered, IsTable}
 use Rattle.lock_db.specs.Laws.{LeavesOthers}
 use Rattle.lock_db.proofs.Lists.{and-left, and-right, not-true, list_all-head, list_all-tail, list_all-passing}
 use Rattle.lock_db.proofs.Names.{is_same-same}
@@ -22,14 +22,17 @@ use Rattle.dlm_core.specs.declared.messages.Letter.TheVariants.{Ask, Drop, Grant
 use Rattle.dlm_core.specs.declared.messages.Message.{Message}
 use Rattle.dlm_core.specs.declared.holds.Hold.{Hold}
 use Rattle.dlm_core.specs.declared.homes.Home.{Home}
+use Rattle.dlm_core.specs.declared.rules.BlockRule.{BlockRule}
+use Rattle.dlm_core.specs.declared.rules.BlockRule.TheVariants.{OfHolders, OfAll}
 use Rattle.dlm_core.specs.declared.blocks.Block.{Block}
+use Rattle.dlm_core.specs.declared.blocks.Seen.{Seen}
 use Rattle.dlm_core.specs.declared.queue.Waiter.{Waiter}
 use Rattle.dlm_core.specs.States.{State, home, home_at, master, recovery, table_at, told_at, in_turn}
 use Rattle.dlm_core.specs.Steps.{is_grant, is_call, ask_made, drop_made, put_last, with_table, versions_after, is_served, grant_of, grants_of, served, taken_from, taken, taken_all}
-use Rattle.dlm_core.specs.Recoveries.{is_of_recovery, is_with, is_name_of, better, block_or, best_block, again, made_again, reclaimed_lock, reclaimed, asked_again, all_asked_again, closed, ended, is_open, ended_if, all_ended}
+use Rattle.dlm_core.specs.Recoveries.{is_of_recovery, is_with, is_name_of, better, not_valid, is_strong, block_for, again, made_again, reclaimed_lock, reclaimed, asked_again, all_asked_again, closed, ended, is_open, ended_if, all_ended}
 use Rattle.dlm_core.specs.Deaths.{lowest, bereft, bereft_tables, is_lost, was_master, claim_from, with_ended, killed}
 use Rattle.dlm_core.specs.Lanes.{IsSound}
-use Rattle.dlm_core.specs.Runs.{IsDue, IsClaimOf, IsStep, Leads, MakesCall, Gave, GivesByDeath}
+use Rattle.dlm_core.specs.Runs.{claimed_block, IsDue, IsClaimOf, IsStep, Leads, MakesCall, Gave, GivesByDeath}
 use Rattle.dlm_core.specs.Runs.IsStep.{Restores, Keeps}
 use Rattle.dlm_core.proofs.Others.{can-mode}
 use Rattle.dlm_core.proofs.Passing.{First, call-first, ask-call, drop-call, head-ask, head-drop, can-drop, CanAsk, CanDrop}
@@ -165,40 +168,40 @@ all-taken-goes n r (m ∷ ms) z e k c i =
 
 -- ---- claimed asks
 
-record FurtherAsked (bs : List Block) (hs : List Hold) (ms : List Message) (y : State) : Type 0 where
+record FurtherAsked (bs : LockName → Seen) (hs : List Hold) (ms : List Message) (y : State) : Type 0 where
   open_names : list_all (λ k. not (is_some (recovery k.name y))) hs ≡ true
   sound : IsSound (front (asks_of bs (λ x. master x y) hs ++ ms) y)
 
-ask-goes : (w : Option Mode) (r : State) (h : Hold) (hs : List Hold) (bs : List Block) (ms : List Message) (z : State) → h.wait ≡ w → IsClaimable r bs h → recovery h.name z ≡ None
-    → IsSound (front ((asks_one w (best_block h.name bs) (master h.name z) h ++ asks_of bs (λ x. master x z) hs) ++ ms) z)
-    → FurtherAsked bs hs ms (asked_again h w (best_block h.name bs) z) → Goes z.nodes r z (asked_again h w (best_block h.name bs) z)
+ask-goes : (w : Option Mode) (r : State) (h : Hold) (hs : List Hold) (bs : LockName → Seen) (ms : List Message) (z : State) → h.wait ≡ w → IsClaimable r bs h → recovery h.name z ≡ None
+    → IsSound (front ((asks_one w (bs h.name) (master h.name z) h ++ asks_of bs (λ x. master x z) hs) ++ ms) z)
+    → FurtherAsked bs hs ms (asked_again h w (bs h.name) z) → Goes z.nodes r z (asked_again h w (bs h.name) z)
 ask-goes None r h hs bs ms z u k n i f = goes-none z.nodes r z z refl refl
 ask-goes (Some w) r h hs bs ms z u k n i f =
-    let b : Block = best_block h.name bs in
+    let b : Seen = bs h.name in
     let m : Message = again h w b z in
     let rest : List Message = asks_of bs (λ x. master x z) hs ++ ms in
     let y : State = front (m ∷ rest) z in
     let t : List Resource = table_at (home z.nodes m.name) z.tables in
     let old : Option Mode = mode_of m.owner (told_at m.name z).askers in
-    let t2 : List Resource = made_again m old w t in
+    let t2 : List Resource = made_again b.valid m old w t in
     let q : List Waiter = put_last m old w z.queue in
     let after : State = asked_again h (Some w) b z in
     let pre : State = with_table m.name t2 (record z { queue = q; versions = after.versions }) in
     let a = call-first y m.from m.to m i (find-front m (rest ++ z.mail)) refl n in
     let c : CanAsk m w t = head-ask m w t _ _ _ _ _ refl a.head in
     let makes : MakesCall m t (ask_made m old w t) = ask-makes m w t c old refl (can-mode c.lock (standing_of m.owner (resource_at m.name t).askers) c.stands) in
-    let claim : IsClaimOf r m = record { claim = h; made = k.made; of_owner = refl; on_name = refl; mode = w; asks = refl; claims = inr u; block = k.block } in
+    let claim : IsClaimOf r m = record { claim = h; made = k.made; of_owner = refl; on_name = refl; mode = w; asks = refl; claims = inr u; block = ap (λ (v : Seen). v.value) k.block } in
     let call = ask-call y m.from m.to m w i a refl in
-    let leaves : LeavesOthers m.name t t2 = λ x d. recovered-leaves m.name m.value (ask_made m old w t) x d ∙ call.others x d in
+    let leaves : LeavesOthers m.name t t2 = λ x d. recovered-leaves m.name m.value b.valid (ask_made m old w t) x d ∙ call.others x d in
     let all : Each (Passes z m pre) z.queue = passes-old z m t2 pre z.queue i.some_node i.each_has_one leaves refl refl (queue-waits y i) in
-    serve-goes r z pre m refl (Restores (ask_made m old w t) k.due claim makes refl) refl (passes-put z m pre old w z.queue refl all)
+    serve-goes r z pre m refl (Restores (ask_made m old w t) k.due claim makes (ap (λ (v : Seen). set z.tables (home z.nodes m.name - 1) (recovered m.name m.value v.valid (ask_made m old w t))) k.block)) refl (passes-put z m pre old w z.queue refl all)
     (each-stood (front rest (served pre)) (rest ++ z.mail) (grants_of pre q) f.sound (sym (append_assoc rest z.mail (grants_of pre q))))
 
-all-asked-goes : (n : ℕ) (r : State) (hs : List Hold) (bs : List Block) (ms : List Message) (z : State) → z.nodes ≡ n → Each (IsClaimable r bs) hs → list_all (λ k. not (is_some (recovery k.name z))) hs ≡ true
+all-asked-goes : (n : ℕ) (r : State) (hs : List Hold) (bs : LockName → Seen) (ms : List Message) (z : State) → z.nodes ≡ n → Each (IsClaimable r bs) hs → list_all (λ k. not (is_some (recovery k.name z))) hs ≡ true
     → IsSound (front (asks_of bs (λ x. master x z) hs ++ ms) z) → Goes n r z (all_asked_again bs hs z)
 all-asked-goes n r [] bs ms z e k c i = goes-none n r z z refl refl
 all-asked-goes n r (h ∷ hs) bs ms z e k c i =
-    let b : Block = best_block h.name bs in
+    let b : Seen = bs h.name in
     let o : recovery h.name z ≡ None = none-some (recovery h.name z) (not-true (is_some (recovery h.name z)) (list_all-head (λ (j : Hold). not (is_some (recovery j.name z))) h hs c)) in
     let rest = list_all-tail (λ (j : Hold). not (is_some (recovery j.name z))) h hs c in
     let y : State = asked_again h h.wait b z in
@@ -214,41 +217,74 @@ record IsLeft (r s : State) : Type 0 where
   recovers : (x : LockName) (d : ℕ) → recovery x s ≡ Some d → recovery x r ≡ Some d
   awaited : s.awaited ≡ r.awaited
   claims : Each (Contains r.claims) s.claims
-  blocks : (x : LockName) → is_some (recovery x s) ≡ true → best_block x s.claimed_blocks ≡ best_block x r.claimed_blocks
+  blocks : (x : LockName) → is_some (recovery x s) ≡ true → claimed_block s x ≡ claimed_block r x
   kept : Each (Contains r.kept) s.kept
 
 left-all : (r : State) → IsLeft r r
 left-all r = record { nodes = refl; recovers = λ x d e. e; awaited = refl; claims = each-contained r.claims; blocks = λ x e. refl; kept = each-contained r.kept }
 
--- of value blocks that are left of a name's recovery the best is the best of all
-best-filter : (p : LockName → Bool) (x : LockName) (bs : List Block) → p x ≡ true → best_block x (filter (λ b. p b.name) bs) ≡ best_block x bs
-best-filter p x bs e = ap (λ (cs : List Block). block_or x (in_turn better cs None)) (named-kept p x bs e)
-  where
-    named-kept : (p : LockName → Bool) (x : LockName) (bs : List Block) → p x ≡ true → filter (λ (b : Block). is_same b.name x) (filter (λ (b : Block). p b.name) bs) ≡ filter (λ (b : Block). is_same b.name x) bs
-    named-kept p x [] e = refl
-    named-kept p x (b ∷ bs) e =
-        let rest = named-kept p x bs e in
-        (elim (is_same b.name x) as (λ c. is_same b.name x ≡ c → filter (λ (k : Block). is_same k.name x) (filter (λ (k : Block). p k.name) (b ∷ bs)) ≡ cond c (b ∷ filter (λ (k : Block). is_same k.name x) bs) (filter (λ (k : Block). is_same k.name x) bs)) [
-          | true ↦ λ f. rw (ap p (is_same-same b.name x f) ∙ e, f) (ap (λ (ks : List Block). b ∷ ks) rest)
-          | false ↦ λ f. (elim (p b.name) as (λ c. filter (λ (k : Block). is_same k.name x) (cond c (b ∷ filter (λ (k : Block). p k.name) bs) (filter (λ (k : Block). p k.name) bs)) ≡ filter (λ (k : Block). is_same k.name x) bs) [ true ↦ rw f rest | false ↦ rest ])
-        ]) refl
+-- what is claimed of a name is all that its value block needs
+module _ {X : Type 0} where
+  named-kept : (p q : LockName → Bool) (name : X → LockName) (x : LockName) (xs : List X) → ((y : LockName) → q y ≡ true → y ≡ x) → p x ≡ true → filter (λ k. q (name k)) (filter (λ k. p (name k)) xs) ≡ filter (λ k. q (name k)) xs
+  named-kept p q name x [] h e = refl
+  named-kept p q name x (b ∷ bs) h e =
+      let rest = named-kept p q name x bs h e in
+      (elim (q (name b)) as (λ c. q (name b) ≡ c → filter (λ k. q (name k)) (filter (λ k. p (name k)) (b ∷ bs)) ≡ cond c (b ∷ filter (λ k. q (name k)) bs) (filter (λ k. q (name k)) bs)) [
+        | true ↦ λ f. rw (ap p (h (name b) f) ∙ e, f) (ap (λ (ks : List X). b ∷ ks) rest)
+        | false ↦ λ f. (elim (p (name b)) as (λ c. filter (λ k. q (name k)) (cond c (b ∷ filter (λ k. p (name k)) bs) (filter (λ k. p (name k)) bs)) ≡ filter (λ k. q (name k)) bs) [ true ↦ rw f rest | false ↦ rest ])
+      ]) refl
 
-of-recovery : (d : ℕ) (o : Option ℕ) → is_of_recovery d o ≡ true → o ≡ Some d
+  filter-both : (p q : X → Bool) (xs : List X) → filter q (filter p xs) ≡ filter (λ k. p k && q k) xs
+  filter-both p q [] = refl
+  filter-both p q (x ∷ xs) =
+      let t = filter-both p q xs in
+      (elim (p x) as (λ c. filter q (cond c (x ∷ filter p xs) (filter p xs)) ≡ cond (c && q x) (x ∷ filter (λ k. p k && q k) xs) (filter (λ k. p k && q k) xs)) [
+        | true ↦ (elim (q x) as (λ c. cond c (x ∷ filter q (filter p xs)) (filter q (filter p xs)) ≡ cond c (x ∷ filter (λ k. p k && q k) xs) (filter (λ k. p k && q k) xs)) [ true ↦ ap (λ (ks : List X). x ∷ ks) t | false ↦ t ])
+        | false ↦ t
+      ])
+
+  find-both : (p q : X → Bool) (xs : List X) → find q (filter p xs) ≡ find (λ k. p k && q k) xs
+  find-both p q [] = refl
+  find-both p q (x ∷ xs) =
+      let t = find-both p q xs in
+      (elim (p x) as (λ c. find q (cond c (x ∷ filter p xs) (filter p xs)) ≡ cond (c && q x) (Some x) (find (λ k. p k && q k) xs)) [
+        | true ↦ (elim (q x) as (λ c. cond c (Some x) (find q (filter p xs)) ≡ cond c (Some x) (find (λ k. p k && q k) xs)) [ true ↦ refl | false ↦ t ])
+        | false ↦ t
+      ])
+
+named-blocks : (p : LockName → Bool) (x : LockName) (bs : List Block) → p x ≡ true → filter (λ (b : Block). is_same b.name x) (filter (λ (b : Block). p b.name) bs) ≡ filter (λ (b : Block). is_same b.name x) bs
+named-blocks p x bs e = named-kept p (λ y. is_same y x) (λ (b : Block). b.name) x bs (λ y f. is_same-same y x f) e
+
+named-claims : (p : LockName → Bool) (x : LockName) (hs : List Hold) → p x ≡ true → filter (λ (h : Hold). is_same h.name x) (filter (λ (h : Hold). p h.name) hs) ≡ filter (λ (h : Hold). is_same h.name x) hs
+named-claims p x hs e = named-kept p (λ y. is_same y x) (λ (h : Hold). h.name) x hs (λ y f. is_same-same y x f) e
+
+block-left : (rule : BlockRule) (p : LockName → Bool) (x : LockName) (hs : List Hold) (bs : List Block) → p x ≡ true → block_for rule (filter (λ h. p h.name) hs) (filter (λ b. p b.name) bs) x ≡ block_for rule hs bs x
+block-left OfAll p x hs bs e = ap (λ (cs : List Block). not_valid (in_turn better cs None)) (named-blocks p x bs e)
+block-left OfHolders p x hs bs e =
+    let mine : Hold → Bool = λ h. is_same h.name x in
+    let fewer : List Hold = filter (λ h. p h.name) hs in
+    let strong : find (λ (h : Hold). mine h && is_strong h.belief) fewer ≡ find (λ (h : Hold). mine h && is_strong h.belief) hs =
+    sym (find-both mine (λ h. is_strong h.belief) fewer) ∙ ap (find (λ (h : Hold). is_strong h.belief)) (named-claims p x hs e) ∙ find-both mine (λ h. is_strong h.belief) hs in
+    let believed : filter (λ (h : Hold). mine h && is_some h.belief) fewer ≡ filter (λ (h : Hold). mine h && is_some h.belief) hs =
+    sym (filter-both mine (λ h. is_some h.belief) fewer) ∙ ap (filter (λ (h : Hold). is_some h.belief)) (named-claims p x hs e) ∙ filter-both mine (λ h. is_some h.belief) hs in
+    rw (strong, believed) refl
+
+pub of-recovery : (d : ℕ) (o : Option ℕ) → is_of_recovery d o ≡ true → o ≡ Some d
 of-recovery d None e = cc
 of-recovery d (Some k) e = ap (λ (j : ℕ). Some j) (eq-of k d e)
 
 due-of : (r s : State) (d : ℕ) (x : LockName) → IsLeft r s → is_open d s.awaited ≡ false → is_name_of d s x ≡ true → IsDue r x
 due-of r s d x l o e = record { dead = d; recovers = l.recovers x d (of-recovery d (recovery x s) e); all_came = ap (is_open d) (sym l.awaited) ∙ o }
 
-claimable : (r s : State) (d : ℕ) → IsLeft r s → is_open d s.awaited ≡ false → Each (IsClaimable r (filter (λ b. is_with true d s b.name) s.claimed_blocks)) (filter (λ h. is_with true d s h.name) s.claims)
+claimable : (r s : State) (d : ℕ) → IsLeft r s → is_open d s.awaited ≡ false → Each (IsClaimable r (block_for s.rule (filter (λ h. is_with true d s h.name) s.claims) (filter (λ b. is_with true d s b.name) s.claimed_blocks))) (filter (λ h. is_with true d s h.name) s.claims)
 claimable r s d l o =
     let mine : Hold → Bool = λ h. is_name_of d s h.name in
-    let bs : List Block = filter (λ b. is_name_of d s b.name) s.claimed_blocks in
+    let bs : LockName → Seen = block_for s.rule (filter mine s.claims) (filter (λ b. is_name_of d s b.name) s.claimed_blocks) in
     each-both (Contains r.claims) (λ (h : Hold). mine h ≡ true) (IsClaimable r bs) (filter mine s.claims)
     (λ h c e. record {
       made = c;
       due = due-of r s d h.name l o e;
-      block = ap (λ (b : Block). b.value) (best-filter (is_name_of d s) h.name s.claimed_blocks e ∙ l.blocks h.name (ap is_some (of-recovery d (recovery h.name s) e)));
+      block = block-left s.rule (is_name_of d s) h.name s.claims s.claimed_blocks e ∙ l.blocks h.name (ap is_some (of-recovery d (recovery h.name s) e));
     }) (each-filter (Contains r.claims) mine s.claims l.claims) (each-passing mine s.claims)
 
 keepable : (r s : State) (d : ℕ) → IsLeft r s → is_open d s.awaited ≡ false → Each (IsKeepable r) (filter (λ m. is_with true d s m.name) s.kept)
@@ -262,7 +298,7 @@ keepable r s d l o =
 ended-goes : (r : State) (d : ℕ) (s : State) → IsSound s → IsLeft r s → is_open d s.awaited ≡ false → Goes s.nodes r s (ended d s)
 ended-goes p d s i l o =
     let c : State = closed d s in
-    let bs : List Block = filter (λ b. is_with true d s b.name) s.claimed_blocks in
+    let bs : LockName → Seen = block_for s.rule (filter (λ h. is_with true d s h.name) s.claims) (filter (λ b. is_with true d s b.name) s.claimed_blocks) in
     let hs : List Hold = filter (λ h. is_with true d s h.name) s.claims in
     let ks : List Message = filter (λ m. is_with true d s m.name) s.kept in
     let r = reclaim-all d bs s hs [] s.tables s.versions i refl (list_all-passing (λ h. is_name_of d s h.name) s.claims) (restore-start d bs s i) in
@@ -278,6 +314,7 @@ ended-goes p d s i l o =
 
 -- what a recovery leaves as it is, once it is closed
 pub record IsBeside (s t : State) : Type 0 where
+  pub rule : t.rule ≡ s.rule
   pub nodes : t.nodes ≡ s.nodes
   pub living : t.living ≡ s.living
   pub homes : t.homes ≡ s.homes
@@ -287,14 +324,14 @@ pub record IsBeside (s t : State) : Type 0 where
   pub kept : t.kept ≡ s.kept
 
 stays-same : (s : State) → IsBeside s s
-stays-same s = record { nodes = refl; living = refl; homes = refl; awaited = refl; claims = refl; blocks = refl; kept = refl }
+stays-same s = record { rule = refl; nodes = refl; living = refl; homes = refl; awaited = refl; claims = refl; blocks = refl; kept = refl }
 
 stays-on : (s t u : State) → IsBeside s t → IsBeside t u → IsBeside s u
-stays-on s t u a b = record { nodes = b.nodes ∙ a.nodes; living = b.living ∙ a.living; homes = b.homes ∙ a.homes; awaited = b.awaited ∙ a.awaited; claims = b.claims ∙ a.claims; blocks = b.blocks ∙ a.blocks; kept = b.kept ∙ a.kept }
+stays-on s t u a b = record { rule = b.rule ∙ a.rule; nodes = b.nodes ∙ a.nodes; living = b.living ∙ a.living; homes = b.homes ∙ a.homes; awaited = b.awaited ∙ a.awaited; claims = b.claims ∙ a.claims; blocks = b.blocks ∙ a.blocks; kept = b.kept ∙ a.kept }
 
-taken-stays : (l : Letter) (m : Message) (old : Option Mode) (t : List Resource) (z : State) → IsBeside z (taken_from m l old t z)
-taken-stays (Ask w) m old t z = record { nodes = refl; living = refl; homes = refl; awaited = refl; claims = refl; blocks = refl; kept = refl }
-taken-stays Drop m old t z = record { nodes = refl; living = refl; homes = refl; awaited = refl; claims = refl; blocks = refl; kept = refl }
+pub taken-stays : (l : Letter) (m : Message) (old : Option Mode) (t : List Resource) (z : State) → IsBeside z (taken_from m l old t z)
+taken-stays (Ask w) m old t z = record { rule = refl; nodes = refl; living = refl; homes = refl; awaited = refl; claims = refl; blocks = refl; kept = refl }
+taken-stays Drop m old t z = record { rule = refl; nodes = refl; living = refl; homes = refl; awaited = refl; claims = refl; blocks = refl; kept = refl }
 taken-stays (Grant w v) m old t z = stays-same z
 taken-stays (Claim d) m old t z = stays-same z
 
@@ -303,36 +340,36 @@ all-taken-stays [] z = stays-same z
 all-taken-stays (m ∷ ms) z =
     stays-on z (taken m z) (taken_all ms (taken m z)) (taken-stays m.letter m (mode_of m.owner (told_at m.name z).askers) (table_at (home z.nodes m.name) z.tables) z) (all-taken-stays ms (taken m z))
 
-asked-stays : (w : Option Mode) (h : Hold) (b : Block) (z : State) → IsBeside z (asked_again h w b z)
+asked-stays : (w : Option Mode) (h : Hold) (b : Seen) (z : State) → IsBeside z (asked_again h w b z)
 asked-stays None h b z = stays-same z
-asked-stays (Some w) h b z = record { nodes = refl; living = refl; homes = refl; awaited = refl; claims = refl; blocks = refl; kept = refl }
+asked-stays (Some w) h b z = record { rule = refl; nodes = refl; living = refl; homes = refl; awaited = refl; claims = refl; blocks = refl; kept = refl }
 
-all-asked-stays : (hs : List Hold) (bs : List Block) (z : State) → IsBeside z (all_asked_again bs hs z)
+all-asked-stays : (hs : List Hold) (bs : LockName → Seen) (z : State) → IsBeside z (all_asked_again bs hs z)
 all-asked-stays [] bs z = stays-same z
 all-asked-stays (h ∷ hs) bs z =
-    let y : State = asked_again h h.wait (best_block h.name bs) z in
-    stays-on z y (all_asked_again bs hs y) (asked-stays h.wait h (best_block h.name bs) z) (all-asked-stays hs bs y)
+    let y : State = asked_again h h.wait (bs h.name) z in
+    stays-on z y (all_asked_again bs hs y) (asked-stays h.wait h (bs h.name) z) (all-asked-stays hs bs y)
 
-reclaimed-stays : (be : Option Mode) (h : Hold) (b : Block) (z : State) → IsBeside z (reclaimed_lock h be b z)
+reclaimed-stays : (be : Option Mode) (h : Hold) (b : Seen) (z : State) → IsBeside z (reclaimed_lock h be b z)
 reclaimed-stays None h b z = stays-same z
-reclaimed-stays (Some m) h b z = record { nodes = refl; living = refl; homes = refl; awaited = refl; claims = refl; blocks = refl; kept = refl }
+reclaimed-stays (Some m) h b z = record { rule = refl; nodes = refl; living = refl; homes = refl; awaited = refl; claims = refl; blocks = refl; kept = refl }
 
-all-reclaimed-stays : (hs : List Hold) (bs : List Block) (z : State) → IsBeside z (reclaimed bs hs z)
+all-reclaimed-stays : (hs : List Hold) (bs : LockName → Seen) (z : State) → IsBeside z (reclaimed bs hs z)
 all-reclaimed-stays [] bs z = stays-same z
 all-reclaimed-stays (h ∷ hs) bs z =
-    let y : State = reclaimed_lock h h.belief (best_block h.name bs) z in
-    stays-on z y (reclaimed bs hs y) (reclaimed-stays h.belief h (best_block h.name bs) z) (all-reclaimed-stays hs bs y)
+    let y : State = reclaimed_lock h h.belief (bs h.name) z in
+    stays-on z y (reclaimed bs hs y) (reclaimed-stays h.belief h (bs h.name) z) (all-reclaimed-stays hs bs y)
 
-ended-stays : (d : ℕ) (s : State) → IsBeside (closed d s) (ended d s)
+pub ended-stays : (d : ℕ) (s : State) → IsBeside (closed d s) (ended d s)
 ended-stays d s =
-    let bs : List Block = filter (λ b. is_with true d s b.name) s.claimed_blocks in
+    let bs : LockName → Seen = block_for s.rule (filter (λ h. is_with true d s h.name) s.claims) (filter (λ b. is_with true d s b.name) s.claimed_blocks) in
     let hs : List Hold = filter (λ h. is_with true d s h.name) s.claims in
     let ks : List Message = filter (λ m. is_with true d s m.name) s.kept in
     let y : State = reclaimed bs hs (closed d s) in
     let a : State = all_asked_again bs hs y in
     stays-on (closed d s) y (taken_all ks a) (all-reclaimed-stays hs bs (closed d s)) (stays-on y a (taken_all ks a) (all-asked-stays hs bs y) (all-taken-stays ks a))
 
-recovery-is : (x : LockName) (s t : State) → IsBeside s t → recovery x t ≡ recovery x s
+pub recovery-is : (x : LockName) (s t : State) → IsBeside s t → recovery x t ≡ recovery x s
 recovery-is x s t e = ap (λ (k : ℕ). (home_at (home k x) t.homes).recovers) e.nodes ∙ ap (λ (hs : List Home). (home_at (home s.nodes x) hs).recovers) e.homes
 
 -- a name that is still being recovered is none of the dead node
@@ -351,9 +388,13 @@ left-closed r s d l = record {
   claims = each-filter (Contains r.claims) (λ (h : Hold). is_with false d s h.name) s.claims l.claims;
   blocks = λ x e.
       let f : is_name_of d s x ≡ false = still-of d x s e in
-      best-filter (λ y. not (is_name_of d s y)) x s.claimed_blocks (ap not f) ∙ l.blocks x (sym (ap is_some (still-closed d x s f)) ∙ e);
+      block-left s.rule (λ y. not (is_name_of d s y)) x s.claims s.claimed_blocks (ap not f) ∙ l.blocks x (sym (ap is_some (still-closed d x s f)) ∙ e);
   kept = each-filter (Contains r.kept) (λ (m : Message). is_with false d s m.name) s.kept l.kept;
 }
+
+block-on : (x : LockName) (s t : State) → IsBeside s t → claimed_block t x ≡ claimed_block s x
+block-on x s t e =
+    ap (λ (k : BlockRule). block_for k t.claims t.claimed_blocks x) e.rule ∙ ap (λ (hs : List Hold). block_for s.rule hs t.claimed_blocks x) e.claims ∙ ap (λ (bs : List Block). block_for s.rule s.claims bs x) e.blocks
 
 left-on : (r s t : State) → IsBeside s t → IsLeft r s → IsLeft r t
 left-on r s t e l = record {
@@ -361,7 +402,7 @@ left-on r s t e l = record {
   recovers = λ x d q. l.recovers x d (sym (recovery-is x s t e) ∙ q);
   awaited = e.awaited ∙ l.awaited;
   claims = subst (λ (hs : List Hold). Each (Contains r.claims) hs) (sym e.claims) l.claims;
-  blocks = λ x q. ap (best_block x) e.blocks ∙ l.blocks x (sym (ap is_some (recovery-is x s t e)) ∙ q);
+  blocks = λ x q. block-on x s t e ∙ l.blocks x (sym (ap is_some (recovery-is x s t e)) ∙ q);
   kept = subst (λ (ms : List Message). Each (Contains r.kept) ms) (sym e.kept) l.kept;
 }
 
@@ -468,7 +509,7 @@ pub killed-goes : (d : ℕ) (s : State) → IsSound s → Killed d s
 killed-goes d s i =
     let b : State = bereft d s in
     let so : IsSound (served b) = served-sound b (bereft-pre d s i) in
-    let g : Goes s.nodes b (served b) (with_ended (served b)) = with-ended-goes b (served b) so (record { nodes = refl; living = refl; homes = refl; awaited = refl; claims = refl; blocks = refl; kept = refl }) in
+    let g : Goes s.nodes b (served b) (with_ended (served b)) = with-ended-goes b (served b) so (record { rule = refl; nodes = refl; living = refl; homes = refl; awaited = refl; claims = refl; blocks = refl; kept = refl }) in
     let left : Waiter → Bool = λ w. not (w.owner.node == d) && not (was_master d s w.name) in
     let all : Each (ByDeath1 d s) b.queue =
     each-both (λ (w : Waiter). WaitsIn s w × (recovery w.name s ≡ None)) (λ (w : Waiter). left w ≡ true) (ByDeath1 d s) b.queue

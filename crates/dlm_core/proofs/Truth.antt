@@ -48,7 +48,7 @@ claim-goes s from to m d i f e =
     let ws : List Awaited = filter (λ w. not (is_claimed d m.from w)) s.awaited in
     let y : State = record z { awaited = ws } in
     let r : State = record s { awaited = ws } in
-    let g : Goes s.nodes r y (with_ended y) = with-ended-goes r y (awaited-sound z ws (claim-sound s from to m d i f e)) (record { nodes = refl; living = refl; homes = refl; awaited = refl; claims = refl; blocks = refl; kept = refl }) in
+    let g : Goes s.nodes r y (with_ended y) = with-ended-goes r y (awaited-sound z ws (claim-sound s from to m d i f e)) (record { rule = refl; nodes = refl; living = refl; homes = refl; awaited = refl; claims = refl; blocks = refl; kept = refl }) in
     subst (λ (k : State). Goes s.nodes k z (received m (Claim d) z)) (sym (claim-left s from to m d f e)) (record { chain = g.chain; sent = g.sent; sends = g.sends; given = g.given })
 
 -- ---- the tables go by calls
@@ -104,14 +104,14 @@ after-goes e s i = (elim (names_living e s) as (λ b. names_living e s ≡ b →
 
 -- ---- every grant that is on its way was given
 
-each-past : (P : Message → Type 0) (p : Message → Bool) (ms : List Message) → Each P ms → Each P (past_first p ms)
+pub each-past : (P : Message → Type 0) (p : Message → Bool) (ms : List Message) → Each P ms → Each P (past_first p ms)
 each-past P p [] a = tt
 each-past P p (m ∷ ms) a = (elim (p m) as (λ b. Each P (if b then ms else m ∷ past_first p ms)) [ true ↦ a.1 | false ↦ (a.0, each-past P p ms a.1) ])
 
 some-message : (a b : Message) → Some a ≡ Some b → a ≡ b
 some-message a b e = cc
 
-each-find : (P : Message → Type 0) (p : Message → Bool) (ms : List Message) (m : Message) → Each P ms → find p ms ≡ Some m → P m
+pub each-find : (P : Message → Type 0) (p : Message → Bool) (ms : List Message) (m : Message) → Each P ms → find p ms ≡ Some m → P m
 each-find P p [] m a f = cc
 each-find P p (k ∷ ms) m a f =
     (elim (p k) as (λ b. cond b (Some k) (find p ms) ≡ Some m → P m)
@@ -283,10 +283,10 @@ all-sound [] s i = i
 all-sound (e ∷ es) s i = all-sound es (after e s) (after-sound e s i)
 
 pub all-together : AllGoTogether
-all-together nodes es l = sound-safe (after_all (start nodes) es) (all-sound es (start nodes) (start-sound nodes l))
+all-together rule nodes es l = sound-safe (after_all (start rule nodes) es) (all-sound es (start rule nodes) (start-sound rule nodes l))
 
 pub all-calls : TablesGoByCalls
-all-calls nodes es e l = after-goes e (after_all (start nodes) es) (all-sound es (start nodes) (start-sound nodes l))
+all-calls rule nodes es e l = after-goes e (after_all (start rule nodes) es) (all-sound es (start rule nodes) (start-sound rule nodes l))
 
 after-append : (es fs : List Event) (s : State) → after_all s (es ++ fs) ≡ after_all (after_all s es) fs
 after-append [] fs s = refl
@@ -372,12 +372,12 @@ pass-told : (s0 : State) (es : List Event) (from to : ℕ) (f : Option Message) 
 pass-told s0 es from to None o x w u v n f e a = cc
 pass-told s0 es from to (Some m) o x w u v n f e a = told-given s0 es from to m m.letter o x w u v (rw n f) refl e (each-find (IsGiven s0 es) (is_between from to) (after_all s0 es).mail m a f)
 
-ask-no_grant : (b c : Bool) (o : Owner) (x : LockName) (w : Mode) (u : List ℕ) (v : Bool) → (if b then told.Busy else if c then told.BadConvert else told.Done) ≡ told.Granted o x w u v → ⊥
+pub ask-no_grant : (b c : Bool) (o : Owner) (x : LockName) (w : Mode) (u : List ℕ) (v : Bool) → (if b then told.Busy else if c then told.BadConvert else told.Done) ≡ told.Granted o x w u v → ⊥
 ask-no_grant true c o x w u v e = cc
 ask-no_grant false true o x w u v e = cc
 ask-no_grant false false o x w u v e = cc
 
-drop-no_grant : (b c : Bool) (o : Owner) (x : LockName) (w : Mode) (u : List ℕ) (v : Bool) → (if b then told.Busy else if c then told.Done else told.NotHeld) ≡ told.Granted o x w u v → ⊥
+pub drop-no_grant : (b c : Bool) (o : Owner) (x : LockName) (w : Mode) (u : List ℕ) (v : Bool) → (if b then told.Busy else if c then told.Done else told.NotHeld) ≡ told.Granted o x w u v → ⊥
 drop-no_grant true c o x w u v e = cc
 drop-no_grant false true o x w u v e = cc
 drop-no_grant false false o x w u v e = cc
@@ -397,4 +397,4 @@ event-told s0 es e o x w u v a t =
     ]) refl t
 
 pub grants-true : GrantsAreTrue
-grants-true nodes es e o x w u v l t = event-told (start nodes) es e o x w u v (all-given (start nodes) [] es (start-sound nodes l) (λ k. tt)) t
+grants-true rule nodes es e o x w u v l t = event-told (start rule nodes) es e o x w u v (all-given (start rule nodes) [] es (start-sound rule nodes l) (λ k. tt)) t

@@ -8,13 +8,14 @@ use Rattle.dlm_core.specs.declared.messages.Letter.TheVariants.{Ask, Drop}
 use Rattle.dlm_core.specs.declared.messages.Message.{Message}
 use Rattle.dlm_core.specs.declared.holds.Hold.{Hold}
 use Rattle.dlm_core.specs.declared.blocks.Block.{Block}
+use Rattle.dlm_core.specs.declared.blocks.Seen.{Seen}
 use Rattle.dlm_core.specs.declared.events.Event.{Event}
 use Rattle.dlm_core.specs.declared.events.Event.TheVariants as event
 use Rattle.dlm_core.specs.declared.events.Told.{Told}
 use Rattle.dlm_core.specs.declared.events.Told.TheVariants as told
 use Rattle.dlm_core.specs.Modes.{lowers, crosses, writes}
 use Rattle.dlm_core.specs.States.{State, master, lives, is_between, is_at, hold_at, is_block_of, block_at}
-use Rattle.dlm_core.specs.Steps.{next_version}
+use Rattle.dlm_core.specs.Steps.{next_version, last_version}
 use Rattle.dlm_core.specs.Events.{names_living, told_of, after}
 
 -- Of this owner and this name this is noted now. Of all others stands what stood before.
@@ -27,21 +28,23 @@ pub record NotesBlock (before now : List Block) (b : Block) : Type 0 where
   pub here : block_at b.node b.name now ≡ b
   pub others : (node : ℕ) (name : LockName) → is_block_of node name b ≡ false → block_at node name now ≡ block_at node name before
 
--- A call that writes the value block carries one version more than its node has read or written, and the node notes what it writes.
--- Any other carries version 0, and the node notes nothing.
-abbrev pub Wrote : Bool → Owner → LockName → ℕ → State → State → ℕ → Type 0
-Wrote true owner name fill s next version =
-    (version ≡ next_version (block_at owner.node name s.blocks).version)
+-- A call that writes the value block carries one version more than its owner, or by the rule of all its node, has read or written. The
+-- node notes what it writes, and so does the owner. Any other carries version 0, and notes nothing.
+abbrev pub Wrote : Bool → Owner → LockName → ℕ → State → State → ℕ → Seen → Type 0
+Wrote true owner name fill s next version seen =
+    (version ≡ next_version (last_version s.rule owner name s))
     × NotesBlock s.blocks next.blocks (record { node = owner.node; name = name; value = replicate 16 fill; version = version })
-Wrote false owner name fill s next version = (version ≡ 0) × (next.blocks ≡ s.blocks)
+    × (seen ≡ record { value = replicate 16 fill; valid = true; version = version })
+Wrote false owner name fill s next version seen = (version ≡ 0) × (next.blocks ≡ s.blocks) × (seen ≡ (hold_at owner name s.holds).seen)
 
 -- An owner that believes the old lock calls the master of a name. This one message is put behind all others: from its node to the
 -- master, with these words and these bytes. Its node notes the new belief and the wait. All else stays.
 pub record IsCalled (s next : State) (owner : Owner) (name : LockName) (old : Option Mode) (letter : Letter) (fill : ℕ) (belief wait : Option Mode) : Type 0 where
   pub version : ℕ
+  pub seen : Seen
   pub sends : next.mail ≡ s.mail ++ (record { from = owner.node; to = master name s; owner = owner; name = name; letter = letter; value = replicate 16 fill; version = version } ∷ [])
-  pub notes : Notes s.holds next.holds (record { owner = owner; name = name; belief = belief; wait = wait })
-  pub wrote : Wrote (writes old letter) owner name fill s next version
+  pub notes : Notes s.holds next.holds (record { owner = owner; name = name; belief = belief; wait = wait; seen = seen })
+  pub wrote : Wrote (writes old letter) owner name fill s next version seen
   pub stays : next ≡ record s { mail = next.mail; holds = next.holds; blocks = next.blocks }
 
 -- a lowering is believed at once, and anything else is waited for

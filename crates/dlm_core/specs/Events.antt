@@ -27,7 +27,7 @@ claimed m dead s = with_ended (record s { awaited = filter (λ w. not (is_claime
 abbrev pub received : Message → Letter → State → State
 received m (Ask mode) s = arrived m s
 received m Drop s = arrived m s
-received m (Grant mode valid) s = granted m mode s
+received m (Grant mode valid) s = granted m mode valid s
 received m (Claim dead) s = claimed m dead s
 
 abbrev pub received_told : Message → Letter → Told

@@ -3,8 +3,10 @@ pub mod Deaths
 pub mod Events
 pub mod Lanes
 pub mod Modes
+pub mod Order
 pub mod Recoveries
 pub mod Restored
 pub mod Runs
 pub mod States
 pub mod Steps
+pub mod Values

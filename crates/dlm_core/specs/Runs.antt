@@ -14,13 +14,15 @@ use Rattle.dlm_core.specs.declared.messages.Letter.{Letter}
 use Rattle.dlm_core.specs.declared.messages.Letter.TheVariants.{Ask, Drop, Grant, Claim}
 use Rattle.dlm_core.specs.declared.messages.Message.{Message}
 use Rattle.dlm_core.specs.declared.holds.Hold.{Hold}
+use Rattle.dlm_core.specs.declared.blocks.Seen.{Seen}
+use Rattle.dlm_core.specs.declared.rules.BlockRule.{BlockRule}
 use Rattle.dlm_core.specs.declared.events.Event.{Event}
 use Rattle.dlm_core.specs.declared.events.Event.TheVariants as event
 use Rattle.dlm_core.specs.declared.events.Told.TheVariants as told
 use Rattle.dlm_core.specs.Modes.{is_across}
 use Rattle.dlm_core.specs.States.{State, home, recovery, table_at, is_between, past_first, start}
 use Rattle.dlm_core.specs.Steps.{is_call}
-use Rattle.dlm_core.specs.Recoveries.{best_block, is_open}
+use Rattle.dlm_core.specs.Recoveries.{block_for, is_open}
 use Rattle.dlm_core.specs.Deaths.{is_lost, was_master, bereft_tables, bereft}
 use Rattle.dlm_core.specs.Events.{is_claimed, names_living, after, told_of}
 use Rattle.dlm_core.specs.Lanes.{BeliefsGoTogether}
@@ -107,7 +109,11 @@ pub record IsDue (r : State) (name : LockName) : Type 0 where
   pub recovers : recovery name r ≡ Some dead
   pub all_came : is_open dead r.awaited ≡ false
 
--- A message asks for what a living owner has claimed of a name, its lock or what it waits for, with the best of the claimed value blocks.
+-- the value block that a name gets by what has been claimed
+abbrev pub claimed_block : State → LockName → Seen
+claimed_block r name = block_for r.rule r.claims r.claimed_blocks name
+
+-- A message asks for what a living owner has claimed of a name, its lock or what it waits for, with the value block that the name gets.
 pub record IsClaimOf (r : State) (m : Message) : Type 0 where
   pub claim : Hold
   pub made : Contains r.claims claim
@@ -116,13 +122,13 @@ pub record IsClaimOf (r : State) (m : Message) : Type 0 where
   pub mode : Mode
   pub asks : m.letter ≡ Ask mode
   pub claims : (claim.belief ≡ Some mode) ⊎ (claim.wait ≡ Some mode)
-  pub block : m.value ≡ (best_block m.name r.claimed_blocks).value
+  pub block : m.value ≡ (claimed_block r m.name).value
 
 -- One step of a recovery that ends: the table of a name's home makes a call. It is a claim that was made, and then the name has the
--- claimed value block, which is not valid; or it is a message that was kept back.
+-- value block that it gets, with its mark; or it is a message that was kept back.
 pub data IsStep (nodes : ℕ) (r : State) (m : Message) (ts us : List (List Resource)) : Type 0 where
   Restores : (t : List Resource) → IsDue r m.name → IsClaimOf r m → MakesCall m (table_at (home nodes m.name) ts) t
-      → us ≡ set ts (home nodes m.name - 1) (recovered m.name m.value t) → IsStep nodes r m ts us
+      → us ≡ set ts (home nodes m.name - 1) (recovered m.name m.value (claimed_block r m.name).valid t) → IsStep nodes r m ts us
   Keeps : (t : List Resource) → IsDue r m.name → Contains r.kept m → MakesCall m (table_at (home nodes m.name) ts) t
       → us ≡ set ts (home nodes m.name - 1) t → IsStep nodes r m ts us
 
@@ -151,7 +157,7 @@ pub data GoesByCalls (e : Event) (before after : State) : Type 0 where
 -- so it is at each event of every list
 abbrev pub TablesGoByCalls : Type 0
 TablesGoByCalls =
-    (nodes : ℕ) (es : List Event) (e : Event) → 1 ≤ nodes → GoesByCalls e (after_all (start nodes) es) (after e (after_all (start nodes) es))
+    (rule : BlockRule) (nodes : ℕ) (es : List Event) (e : Event) → 1 ≤ nodes → GoesByCalls e (after_all (start rule nodes) es) (after e (after_all (start rule nodes) es))
 
 -- in these tables the owner has this lock on the name, and the value block and its mark are these
 pub record Gave (nodes : ℕ) (ts : List (List Resource)) (owner : Owner) (name : LockName) (mode : Mode) (value : List ℕ) (valid : Bool) : Type 0 where
@@ -249,9 +255,9 @@ pub record TellsTruly (s : State) (es : List Event) (e : Event) (owner : Owner) 
 -- each grant that an event tells of was given, with the value block and the mark of the moment when it was given
 abbrev pub GrantsAreTrue : Type 0
 GrantsAreTrue =
-    (nodes : ℕ) (es : List Event) (e : Event) (owner : Owner) (name : LockName) (mode : Mode) (value : List ℕ) (valid : Bool) → 1 ≤ nodes
-    → told_of e (after_all (start nodes) es) ≡ told.Granted owner name mode value valid → TellsTruly (start nodes) es e owner name mode value valid
+    (rule : BlockRule) (nodes : ℕ) (es : List Event) (e : Event) (owner : Owner) (name : LockName) (mode : Mode) (value : List ℕ) (valid : Bool) → 1 ≤ nodes
+    → told_of e (after_all (start rule nodes) es) ≡ told.Granted owner name mode value valid → TellsTruly (start rule nodes) es e owner name mode value valid
 
 -- whatever is delivered in whatever order, and whoever dies, what owners believe goes together after each event
 abbrev pub AllGoTogether : Type 0
-AllGoTogether = (nodes : ℕ) (es : List Event) → 1 ≤ nodes → BeliefsGoTogether (after_all (start nodes) es)
+AllGoTogether = (rule : BlockRule) (nodes : ℕ) (es : List Event) → 1 ≤ nodes → BeliefsGoTogether (after_all (start rule nodes) es)

@@ -12,6 +12,8 @@ use Rattle.dlm_core.specs.declared.messages.Message.{Message}
 use Rattle.dlm_core.specs.declared.holds.Hold.{Hold}
 use Rattle.dlm_core.specs.declared.blocks.Block.{Block}
 use Rattle.dlm_core.specs.declared.blocks.Version.{Version}
+use Rattle.dlm_core.specs.declared.blocks.Seen.{Seen}
+use Rattle.dlm_core.specs.declared.rules.BlockRule.{BlockRule}
 use Rattle.dlm_core.specs.declared.homes.Home.{Home}
 use Rattle.dlm_core.specs.declared.homes.Awaited.{Awaited}
 use Rattle.dlm_core.specs.declared.queue.Waiter.{Waiter}
@@ -20,6 +22,8 @@ use Rattle.dlm_core.specs.Modes.{lowers}
 -- The nodes are 1 to `nodes`, and each name has one of them as its home. There is a table for the names of each home, in order of
 -- homes, which the home's master keeps.
 pub record State : Type 0 where
+  -- which value blocks names have after a recovery
+  pub rule : BlockRule
   pub nodes : ℕ
   -- the nodes that live, in order
   pub living : List ℕ
@@ -115,9 +119,13 @@ module _ {A B : Type 0} where
 abbrev pub is_at : Owner → LockName → Hold → Bool
 is_at owner name h = same_owner h.owner owner && is_same h.name name
 
+-- what an owner has seen that has read and written nothing
+abbrev pub unseen : Seen
+unseen = record { value = replicate 16 0; valid = false; version = 0 }
+
 -- what an owner believes of a name: nothing, where nothing is noted
 abbrev pub hold_at : Owner → LockName → List Hold → Hold
-hold_at owner name hs = unwrap_or (find (is_at owner name) hs) (record { owner = owner; name = name; belief = None; wait = None })
+hold_at owner name hs = unwrap_or (find (is_at owner name) hs) (record { owner = owner; name = name; belief = None; wait = None; seen = unseen })
 
 -- an owner comes before another: by node, and on one node by part
 abbrev pub is_lower : Owner → Owner → Bool
@@ -164,8 +172,9 @@ abbrev pub own_home : ℕ → Home
 own_home node = record { master = node; recovers = None }
 
 -- nobody has asked for anything
-abbrev pub start : ℕ → State
-start nodes = record {
+abbrev pub start : BlockRule → ℕ → State
+start rule nodes = record {
+  rule = rule;
   nodes = nodes;
   living = range_with_len 1 nodes;
   homes = map own_home (range_with_len 1 nodes);

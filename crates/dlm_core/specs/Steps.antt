@@ -16,11 +16,14 @@ use Rattle.dlm_core.specs.declared.messages.Message.{Message}
 use Rattle.dlm_core.specs.declared.holds.Hold.{Hold}
 use Rattle.dlm_core.specs.declared.blocks.Block.{Block}
 use Rattle.dlm_core.specs.declared.blocks.Version.{Version}
+use Rattle.dlm_core.specs.declared.blocks.Seen.{Seen}
+use Rattle.dlm_core.specs.declared.rules.BlockRule.{BlockRule}
+use Rattle.dlm_core.specs.declared.rules.BlockRule.TheVariants.{OfHolders, OfAll}
 use Rattle.dlm_core.specs.declared.queue.Waiter.{Waiter}
 use Rattle.dlm_core.specs.declared.events.Told.{Told}
 use Rattle.dlm_core.specs.declared.events.Told.TheVariants as told
 use Rattle.dlm_core.specs.Modes.{lowers, crosses, writes}
-use Rattle.dlm_core.specs.States.{State, home, master, table_at, told_at, put_before, in_turn, noted, asked_hold, block_at, noted_block, version_at, noted_version}
+use Rattle.dlm_core.specs.States.{State, home, master, table_at, told_at, put_before, in_turn, hold_at, noted, asked_hold, block_at, noted_block, version_at, noted_version}
 
 -- a lock of which no conversion is queued, or none
 abbrev pub stands_as : Option Mode → Option Standing
@@ -46,10 +49,15 @@ is_call (Claim node) = false
 abbrev pub next_version : ℕ → ℕ
 next_version v = if nat_lt v 18446744073709551615 then v + 1 else v
 
+-- the version of what the writer of a name has read or written last: the owner, or by the rule of all its node
+abbrev pub last_version : BlockRule → Owner → LockName → State → ℕ
+last_version OfHolders owner name s = (hold_at owner name s.holds).seen.version
+last_version OfAll owner name s = (block_at owner.node name s.blocks).version
+
 -- the version that a call carries: 0, where it does not write
 abbrev pub version_of : Owner → LockName → Option Mode → Letter → State → ℕ
 version_of owner name old letter s =
-    if writes old letter then next_version (block_at owner.node name s.blocks).version else 0
+    if writes old letter then next_version (last_version s.rule owner name s) else 0
 
 -- a message to the master of a name, from an owner that believes this lock
 abbrev pub call_to : Owner → LockName → Option Mode → Letter → ℕ → State → Message
@@ -70,11 +78,15 @@ blocks_after owner name old letter fill s =
     then noted_block (record { node = owner.node; name = name; value = replicate 16 fill; version = version_of owner name old letter s }) s.blocks
     else s.blocks
 
+-- what an owner has seen once it has sent a message: what it writes, where it does
+abbrev pub seen_after : Option Mode → Hold → Message → Seen
+seen_after old h m = if writes old m.letter then record { value = m.value; valid = true; version = m.version } else h.seen
+
 -- what an owner believes is noted, and its message is sent
 abbrev pub called : Option Mode → Hold → Letter → ℕ → State → State
 called old h letter fill s = record s {
   mail = s.mail ++ (call_to h.owner h.name old letter fill s ∷ []);
-  holds = noted h s.holds;
+  holds = noted (record h { seen = seen_after old h (call_to h.owner h.name old letter fill s) }) s.holds;
   blocks = blocks_after h.owner h.name old letter fill s;
 }
 
@@ -174,8 +186,8 @@ abbrev pub taken_all : List Message → State → State
 taken_all ms s = in_turn taken ms s
 
 -- an owner gets a grant
-abbrev pub granted : Message → Mode → State → State
-granted m mode s = record s {
-  holds = noted (record { owner = m.owner; name = m.name; belief = Some mode; wait = None }) s.holds;
+abbrev pub granted : Message → Mode → Bool → State → State
+granted m mode valid s = record s {
+  holds = noted (record { owner = m.owner; name = m.name; belief = Some mode; wait = None; seen = record { value = m.value; valid = valid; version = m.version } }) s.holds;
   blocks = noted_block (record { node = m.owner.node; name = m.name; value = m.value; version = m.version }) s.blocks;
 }

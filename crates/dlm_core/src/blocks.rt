@@ -2,7 +2,7 @@
 
 ghost use Rattle.std.specs.Prelude.{◌≡◌, OnOk, not, filter, find, unwrap_or};
 ghost use Rattle.lock_db.specs.Names.{is_same};
-ghost use Rattle.dlm_core.specs.States.{is_block_of, block_at, noted_block, version_at, noted_version};
+ghost use Rattle.dlm_core.specs.States.{unseen, is_block_of, block_at, noted_block, version_at, noted_version};
 ghost use Rattle.dlm_core.specs.Steps.{next_version};
 
 use lock_db::{LockName, NoMemory};
@@ -27,6 +27,28 @@ pub struct Version {
     pub name: LockName,
     /// How many writes led to it, as its writers counted them.
     pub version: u64,
+}
+
+/// What an owner has read or written last under its lock.
+#[derive(Clone, Copy, Debug, PartialEq)]
+pub struct Seen {
+    /// The bytes.
+    pub value: [u8; 16],
+    /// Whether they were valid when they were read; what is written is.
+    pub valid: bool,
+    /// How many writes led to them, as their writers counted them.
+    pub version: u64,
+}
+
+/// What an owner has seen that has read and written nothing: zeros.
+pub(crate) fn unseen() -> Seen
+    ensures { result ≡ unseen }
+{
+    Seen {
+        value: [0; 16],
+        valid: false,
+        version: 0,
+    }
 }
 
 fn find_block(blocks: &[Block], node: u8, name: LockName) -> Option<Block>

@@ -5,7 +5,7 @@ ghost use Rattle.lock_db.specs.Queues.{mode_of};
 ghost use Rattle.dlm_core.specs.States.{IsShaped, home, table_at, told_at};
 ghost use Rattle.dlm_core.specs.Steps.{is_served, grant_of, grants_of, served, put_last, versions_after, taken, taken_all, granted};
 
-use crate::blocks::{Block, note_block, note_version, version_at};
+use crate::blocks::{Block, Seen, note_block, note_version, version_at};
 use crate::cluster::Cluster;
 use crate::holds::{Hold, note, writes};
 use crate::masters::home;
@@ -161,8 +161,8 @@ impl Cluster {
     }
 
     /// An owner gets a grant.
-    pub(crate) fn take_grant(&mut self, m: Message, mode: Mode) -> Result<(), NoMemory>
-        ensures { OnOk result (self.new ≡ granted m mode self.old) }
+    pub(crate) fn take_grant(&mut self, m: Message, mode: Mode, valid: bool) -> Result<(), NoMemory>
+        ensures { OnOk result (self.new ≡ granted m mode valid self.old) }
     {
         let value = m.value;
         note_block(
@@ -181,6 +181,11 @@ impl Cluster {
                 name: m.name,
                 belief: Some(mode),
                 wait: None,
+                seen: Seen {
+                    value,
+                    valid,
+                    version: m.version,
+                },
             },
         )
     }

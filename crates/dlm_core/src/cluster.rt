@@ -4,23 +4,25 @@ ghost use Rattle.std.specs.Prelude.{◌≡◌, ◌≤◌, ◌+◌, ◌++◌, ◌
 ghost use Rattle.std.specs.List.{range_with_len, list_any};
 ghost use Rattle.dlm_core.specs.Modes.{writes};
 ghost use Rattle.dlm_core.specs.States.{State, start, own_home, home_at, home, lives, noted, noted_block};
-ghost use Rattle.dlm_core.specs.Steps.{version_of, call_to, called, ask_told, ask_after, drop_told, drop_after};
+ghost use Rattle.dlm_core.specs.Steps.{last_version, version_of, seen_after, call_to, called, ask_told, ask_after, drop_told, drop_after};
 
-use crate::blocks::{Block, Version, block_at, next_version, note_block};
+use crate::blocks::{Block, Seen, Version, block_at, next_version, note_block};
 use crate::events::Told;
-use crate::holds::{Hold, asked_hold, crosses, note, writes};
+use crate::holds::{Hold, asked_hold, crosses, hold_at, note, writes};
 use crate::homes::{Awaited, Home};
 use crate::masters::home_of;
 use crate::messages::{Letter, Message};
 use crate::queue::Waiter;
+use crate::rules::BlockRule;
 use crate::tables::{copy_tables, new_tables};
-use lock_db::{LockDb, LockName, Mode, NoMemory};
+use lock_db::{LockDb, LockName, Mode, NoMemory, Owner};
 use std::alloc::Global;
 use std::marker::Model;
 
 /// The whole state.
 #[derive(Drop)]
 pub(crate) struct Cluster {
+    pub(crate) rule: BlockRule,
     pub(crate) nodes: u8,
     pub(crate) living: Vec<u8>,
     pub(crate) homes: Vec<Home>,
@@ -43,6 +45,7 @@ impl Model for Cluster {
     ghost Value = { State };
 
     ghost view = { λ c. record {
+      rule = c.rule;
       nodes = c.nodes;
       living = c.living.items;
       homes = c.homes.items;
@@ -86,6 +89,22 @@ fn own_homes(alloc: Global, nodes: &[u8]) -> Result<Vec<Home>, NoMemory>
     Ok(all)
 }
 
+/// What an owner has seen once it has sent a message: what it writes, where it does.
+fn seen_after(old: Option<Mode>, hold: Hold, m: Message) -> Seen
+    ensures { result ≡ seen_after old hold m }
+{
+    if writes(old, m.letter) {
+        let value = m.value;
+        Seen {
+            value,
+            valid: true,
+            version: m.version,
+        }
+    } else {
+        hold.seen
+    }
+}
+
 fn is_among(node: u8, nodes: &[u8]) -> bool
     ensures { result ≡ list_any (λ k. k == node) nodes.now }
 {
@@ -98,12 +117,13 @@ fn is_among(node: u8, nodes: &[u8]) -> bool
 }
 
 impl Cluster {
-    pub(crate) fn new(alloc: Global, nodes: u8) -> Result<Cluster, NoMemory>
-        ensures { IfOk result (λ c. c ≡ start nodes) }
+    pub(crate) fn new(alloc: Global, rule: BlockRule, nodes: u8) -> Result<Cluster, NoMemory>
+        ensures { IfOk result (λ c. c ≡ start rule nodes) }
     {
         let living = numbers(alloc, nodes)?;
         let homes = own_homes(alloc, living.as_slice())?;
         Ok(Cluster {
+            rule,
             nodes,
             living,
             homes,
@@ -125,6 +145,7 @@ impl Cluster {
         ensures { IfOk result (λ c. c ≡ self.now) }
     {
         Ok(Cluster {
+            rule: self.rule,
             nodes: self.nodes,
             living: Vec::from_slice(alloc, self.living.as_slice())?,
             homes: Vec::from_slice(alloc, self.homes.as_slice())?,
@@ -157,11 +178,21 @@ impl Cluster {
         home_of(self.homes.as_slice(), self.nodes, name)
     }
 
+    /// The version of what the writer of a name has read or written last: the owner, or by the rule of all its node.
+    fn last_version(&self, owner: Owner, name: LockName) -> u64
+        ensures { result ≡ last_version self.now.rule owner name self.now }
+    {
+        match self.rule {
+            BlockRule::OfHolders => hold_at(self.holds.as_slice(), owner, name).seen.version,
+            BlockRule::OfAll => block_at(self.blocks.as_slice(), owner.node, name).version,
+        }
+    }
+
     fn version_of(&self, hold: Hold, old: Option<Mode>, letter: Letter) -> u64
         ensures { result ≡ version_of hold.owner hold.name old letter self.now }
     {
         if writes(old, letter) {
-            next_version(block_at(self.blocks.as_slice(), hold.owner.node, hold.name).version)
+            next_version(self.last_version(hold.owner, hold.name))
         } else {
             0
         }
@@ -204,10 +235,12 @@ impl Cluster {
         Ok(())
     }
 
-    fn note_hold(&mut self, hold: Hold) -> Result<(), NoMemory>
-        ensures { OnOk result (self.new ≡ record self.old { holds = noted hold self.old.holds }) }
+    /// Notes what an owner believes from now on, and what it has seen, by the message that it sends.
+    fn note_hold(&mut self, hold: Hold, m: Message, old: Option<Mode>) -> Result<(), NoMemory>
+        ensures { OnOk result (self.new ≡ record self.old { holds = noted (record hold { seen = seen_after old hold m }) self.old.holds }) }
     {
-        note(&mut self.holds, hold)
+        let seen = seen_after(old, hold, m);
+        note(&mut self.holds, Hold { seen, ..hold })
     }
 
     fn send(&mut self, m: Message) -> Result<(), NoMemory>
@@ -230,7 +263,7 @@ impl Cluster {
     {
         let m = self.call_to(old, hold, letter, fill);
         self.note_write(m, old)?;
-        self.note_hold(hold)?;
+        self.note_hold(hold, m, old)?;
         self.send(m)?;
         Ok(())
     }

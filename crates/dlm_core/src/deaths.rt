@@ -393,7 +393,7 @@ impl Cluster {
                 Ok(Told::Done)
             }
             Letter::Grant(mode, valid) => {
-                self.take_grant(m, mode)?;
+                self.take_grant(m, mode, valid)?;
                 let value = m.value;
                 Ok(Told::Granted {
                     owner: m.owner,

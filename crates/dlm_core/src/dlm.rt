@@ -8,6 +8,7 @@ ghost use Rattle.dlm_core.specs.Runs.{GoesByCalls};
 
 use crate::cluster::Cluster;
 use crate::events::{Event, Told};
+use crate::rules::BlockRule;
 use plain_cat::NoMemory;
 use std::alloc::Global;
 use std::marker::Model;
@@ -38,13 +39,22 @@ impl Dlm {
         let _cluster = &self.cluster;
     }
 
-    /// A core of the nodes 1 to `nodes`, at most 255, where nobody has asked for anything. The one error is `NoMemory`.
+    /// A core of the nodes 1 to `nodes`, at most 255, where nobody has asked for anything. Recoveries go by
+    /// `BlockRule::OfHolders`. The one error is `NoMemory`.
     pub fn new(alloc: Global, nodes: u8) -> Result<Dlm, NoMemory>
         requires { 1 ≤ nodes }
-        ensures { IfOk result (λ d. d ≡ start nodes) }
+        ensures { IfOk result (λ d. d ≡ start BlockRule.OfHolders nodes) }
+    {
+        Dlm::with_rule(alloc, BlockRule::OfHolders, nodes)
+    }
+
+    /// The same, where recoveries go by this rule. The one error is `NoMemory`.
+    pub fn with_rule(alloc: Global, rule: BlockRule, nodes: u8) -> Result<Dlm, NoMemory>
+        requires { 1 ≤ nodes }
+        ensures { IfOk result (λ d. d ≡ start rule nodes) }
     {
         Ok(Dlm {
-            cluster: Cluster::new(alloc, nodes)?,
+            cluster: Cluster::new(alloc, rule, nodes)?,
         })
     }
 

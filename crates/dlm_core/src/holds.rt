@@ -7,6 +7,7 @@ ghost use Rattle.lock_db.specs.Names.{is_before, order_of};
 ghost use Rattle.std.specs.declared.cmp.Ordering.{Ordering};
 ghost use Rattle.lock_db.specs.Queues.{is_writing};
 
+use crate::blocks::{Seen, unseen};
 use crate::messages::Letter;
 use lock_db::{LockName, Mode, NoMemory, Owner};
 use std::cmp::Ordering;
@@ -22,6 +23,8 @@ pub struct Hold {
     pub belief: Option<Mode>,
     /// The mode that it has asked for and that is not granted yet.
     pub wait: Option<Mode>,
+    /// What it has read or written last under its lock.
+    pub seen: Seen,
 }
 
 fn is_across(old: Mode, new: Mode) -> bool
@@ -144,6 +147,7 @@ pub(crate) fn hold_at(holds: &[Hold], owner: Owner, name: LockName) -> Hold
         name,
         belief: None,
         wait: None,
+        seen: unseen(),
     })
 }
 

@@ -1,17 +1,18 @@
 //! How the names of a dead node are recovered.
 
-ghost use Rattle.std.specs.Prelude.{◌≡◌, ◌≤◌, OnOk, IfOk, Some, None, true, filter, map, not, ◌==◌};
+ghost use Rattle.std.specs.Prelude.{◌≡◌, ◌≤◌, ◌&&◌, OnOk, IfOk, Some, None, true, false, filter, find, map, not, ◌==◌};
 ghost use Rattle.lock_db.specs.Names.{is_same};
 ghost use Rattle.dlm_core.specs.States.{IsShaped, home, in_turn};
-ghost use Rattle.dlm_core.specs.Recoveries.{is_of_recovery, is_with, is_better, better, best_block, again, reclaimed_lock, reclaimed, asked_again, all_asked_again, settled_home, closed, recovered_with, ended, is_open, ended_if, all_ended};
+ghost use Rattle.dlm_core.specs.Recoveries.{is_of_recovery, is_with, is_better, better, best_block, is_strong, later, latest, unmarked, held_block, block_for, again, reclaimed_lock, reclaimed, asked_again, all_asked_again, settled_home, closed, recovered_with, ended, is_open, ended_if, all_ended};
 
-use crate::blocks::{Block, note_version};
+use crate::blocks::{Block, Seen, note_version, unseen};
 use crate::cluster::Cluster;
 use crate::holds::Hold;
 use crate::homes::{Awaited, Home};
 use crate::masters::home;
 use crate::messages::{Letter, Message};
 use crate::queue::put_last;
+use crate::rules::BlockRule;
 use crate::tables::make_again;
 use lock_db::{LockName, Mode, NoMemory};
 use std::alloc::Global;
@@ -50,16 +51,102 @@ fn best_of(name: LockName, blocks: &[Block]) -> Option<Block>
     best
 }
 
-/// The value block that is claimed for a name: zeros, where none is.
-fn best_block(name: LockName, blocks: &[Block]) -> Block
+/// The claimed value block of the greatest version, not valid: zeros, where none is claimed.
+fn best_block(name: LockName, blocks: &[Block]) -> Seen
     ensures { result ≡ best_block name blocks.now }
 {
-    best_of(name, blocks).unwrap_or(Block {
-        node: 0,
-        name,
-        value: [0; 16],
-        version: 0,
-    })
+    match best_of(name, blocks) {
+        Some(b) => {
+            let value = b.value;
+            Seen {
+                value,
+                valid: false,
+                version: b.version,
+            }
+        }
+        None => unseen(),
+    }
+}
+
+fn is_strong(belief: Option<Mode>) -> bool
+    ensures { result ≡ is_strong belief }
+{
+    matches!(belief, Some(Mode::CW | Mode::PR | Mode::PW | Mode::EX))
+}
+
+/// A claimed lock on a name above CR.
+fn strong_of(name: LockName, holds: &[Hold]) -> Option<Hold>
+    ensures { result ≡ find (λ h. is_same h.name name && is_strong h.belief) holds.now }
+{
+    holds
+        .iter()
+        .copied()
+        .find(|h| h.name == name && is_strong(h.belief))
+}
+
+/// Of two claimed locks the one whose owner has seen the greater version.
+fn later(hold: Hold, best: Option<Hold>) -> Option<Hold>
+    ensures { result ≡ later hold best }
+{
+    match best {
+        Some(b) => {
+            if b.seen.version < hold.seen.version {
+                Some(hold)
+            } else {
+                Some(b)
+            }
+        }
+        None => Some(hold),
+    }
+}
+
+/// Of the claimed locks on a name the one whose owner has seen the greatest version.
+fn latest(name: LockName, holds: &[Hold]) -> Option<Hold>
+    ensures { result ≡ latest name holds.now }
+{
+    let mut best = None;
+    for h in holds {
+        if h.name == name && h.belief.is_some() {
+            best = later(*h, best);
+        }
+    }
+    best
+}
+
+fn with_mark(seen: Seen, valid: bool) -> Seen
+    ensures { result ≡ record seen { valid = valid } }
+{
+    Seen { valid, ..seen }
+}
+
+/// What the owner of a claimed lock has seen, not valid.
+fn unmarked(last: Option<Hold>) -> Seen
+    ensures { result ≡ unmarked last }
+{
+    match last {
+        Some(h) => with_mark(h.seen, false),
+        None => unseen(),
+    }
+}
+
+/// The value block that the claimed locks on a name keep for it.
+fn held_block(name: LockName, holds: &[Hold]) -> Seen
+    ensures { result ≡ held_block name holds.now }
+{
+    match strong_of(name, holds) {
+        Some(h) => h.seen,
+        None => unmarked(latest(name, holds)),
+    }
+}
+
+/// The value block of a name whose claims have all come.
+fn block_for(rule: BlockRule, name: LockName, holds: &[Hold], blocks: &[Block]) -> Seen
+    ensures { result ≡ block_for rule holds.now blocks.now name }
+{
+    match rule {
+        BlockRule::OfHolders => held_block(name, holds),
+        BlockRule::OfAll => best_block(name, blocks),
+    }
 }
 
 pub(crate) fn is_of_recovery(dead: u8, recovers: Option<u8>) -> bool
@@ -200,7 +287,7 @@ impl Cluster {
     }
 
     /// A claimed ask, as a message that its owner sends once more, with the value block that is claimed for the name.
-    fn again(&self, hold: Hold, mode: Mode, block: Block) -> Message
+    fn again(&self, hold: Hold, mode: Mode, block: Seen) -> Message
         requires { 1 ≤ self.now.nodes }
         ensures { result ≡ again hold mode block self.now }
     {
@@ -218,7 +305,7 @@ impl Cluster {
 
     /// Grants a claimed lock.
     #[tactic(auto, using(crate::proofs::Shapes::reclaimed_shape))]
-    fn reclaim(&mut self, alloc: Global, hold: Hold, block: Block) -> Result<(), NoMemory>
+    fn reclaim(&mut self, alloc: Global, hold: Hold, block: Seen) -> Result<(), NoMemory>
         requires { IsShaped self.old }
         ensures after { OnOk result (self.new ≡ reclaimed_lock hold hold.belief block self.old) }
         ensures shape { OnOk result (IsShaped self.new) }
@@ -227,7 +314,7 @@ impl Cluster {
             let m = self.again(hold, mode, block);
             let old = self.mode_of(m);
             let i = home(self.nodes, m.name) as usize - 1;
-            make_again(alloc, &mut self.tables[i], m, old, mode)?;
+            make_again(alloc, &mut self.tables[i], m, old, mode, block.valid)?;
             note_version(&mut self.versions, m.name, m.version)?;
         }
         Ok(())
@@ -236,22 +323,23 @@ impl Cluster {
     fn reclaim_all(
         &mut self,
         alloc: Global,
+        rule: BlockRule,
         blocks: &[Block],
         holds: &[Hold],
     ) -> Result<(), NoMemory>
         requires { IsShaped self.old }
-        ensures after { OnOk result (self.new ≡ reclaimed blocks.now holds.now self.old) }
+        ensures after { OnOk result (self.new ≡ reclaimed (block_for rule holds.now blocks.now) holds.now self.old) }
         ensures shape { OnOk result (IsShaped self.new) }
     {
         for h in holds {
-            self.reclaim(alloc, *h, best_block(h.name, blocks))?;
+            self.reclaim(alloc, *h, block_for(rule, h.name, holds, blocks))?;
         }
         Ok(())
     }
 
     /// Takes a claimed ask.
     #[tactic(auto, using(crate::proofs::Shapes::asked_shape))]
-    fn ask_again(&mut self, alloc: Global, hold: Hold, block: Block) -> Result<(), NoMemory>
+    fn ask_again(&mut self, alloc: Global, hold: Hold, block: Seen) -> Result<(), NoMemory>
         requires { IsShaped self.old }
         ensures after { OnOk result (self.new ≡ asked_again hold hold.wait block self.old) }
         ensures shape { OnOk result (IsShaped self.new) }
@@ -260,7 +348,7 @@ impl Cluster {
             let m = self.again(hold, mode, block);
             let old = self.mode_of(m);
             let i = home(self.nodes, m.name) as usize - 1;
-            make_again(alloc, &mut self.tables[i], m, old, mode)?;
+            make_again(alloc, &mut self.tables[i], m, old, mode, block.valid)?;
             put_last(&mut self.queue, m, old, mode)?;
             note_version(&mut self.versions, m.name, m.version)?;
             self.serve(alloc)?;
@@ -271,15 +359,16 @@ impl Cluster {
     fn ask_all_again(
         &mut self,
         alloc: Global,
+        rule: BlockRule,
         blocks: &[Block],
         holds: &[Hold],
     ) -> Result<(), NoMemory>
         requires { IsShaped self.old }
-        ensures after { OnOk result (self.new ≡ all_asked_again blocks.now holds.now self.old) }
+        ensures after { OnOk result (self.new ≡ all_asked_again (block_for rule holds.now blocks.now) holds.now self.old) }
         ensures shape { OnOk result (IsShaped self.new) }
     {
         for h in holds {
-            self.ask_again(alloc, *h, best_block(h.name, blocks))?;
+            self.ask_again(alloc, *h, block_for(rule, h.name, holds, blocks))?;
         }
         Ok(())
     }
@@ -316,11 +405,12 @@ impl Cluster {
         kept: &[Message],
     ) -> Result<(), NoMemory>
         requires { IsShaped self.old }
-        ensures after { OnOk result (self.new ≡ recovered_with claims.now blocks.now kept.now self.old) }
+        ensures after { OnOk result (self.new ≡ recovered_with (block_for self.old.rule claims.now blocks.now) claims.now kept.now self.old) }
         ensures shape { OnOk result (IsShaped self.new) }
     {
-        self.reclaim_all(alloc, blocks, claims)?;
-        self.ask_all_again(alloc, blocks, claims)?;
+        let rule = self.rule;
+        self.reclaim_all(alloc, rule, blocks, claims)?;
+        self.ask_all_again(alloc, rule, blocks, claims)?;
         self.take_all(alloc, kept)
     }
 

@@ -63,7 +63,7 @@ pub(crate) fn make_ask(
     Ok(())
 }
 
-/// The same, and then the name has the value block of the message, which is not valid.
+/// The same, and then the name has the value block of the message, with this mark.
 #[tactic(auto, using(crate::proofs::Others::used_made))]
 pub(crate) fn make_again(
     alloc: Global,
@@ -71,12 +71,13 @@ pub(crate) fn make_again(
     m: Message,
     old: Option<Mode>,
     mode: Mode,
+    valid: bool,
 ) -> Result<(), NoMemory>
     requires { old ≡ mode_of m.owner (resource_at m.name table.old).askers }
-    ensures { OnOk result (table.new ≡ made_again m old mode table.old) }
+    ensures { OnOk result (table.new ≡ made_again valid m old mode table.old) }
 {
     make_ask(alloc, table, m, old, mode)?;
-    table.recover(m.name, m.value);
+    table.recover(m.name, m.value, valid);
     Ok(())
 }
 

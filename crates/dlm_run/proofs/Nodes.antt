@@ -1,6 +1,7 @@
 -- A script has a node at least, so what holds of every list of events holds of its events.
 use Rattle.std.proofs.Common.{◌≡◌, ◌≤◌, ◌+◌, ◌++◌, ℕ, Bool, true, false, List, [], ◌∷◌, Option, Some, None, Result, Ok, Err, codes, leb, length, take, refl, if◌then◌else◌}
 use Rattle.dlm_core.specs.declared.events.Event.{Event}
+use Rattle.dlm_core.specs.declared.rules.BlockRule.TheVariants.{OfAll}
 use Rattle.dlm_core.specs.States.{start}
 use Rattle.dlm_core.specs.Answers.{AnswersAreTrue}
 use Rattle.dlm_core.specs.Runs.{after_all, AllGoTogether, TablesGoByCalls, GrantsAreTrue}
@@ -70,8 +71,8 @@ pub script_rules : (bytes : List ℕ) (p : Play) → script_of bytes ≡ Ok p �
 script_rules bytes p e a t b c =
     let l : 1 ≤ p.nodes = script_nodes bytes p e in
     record {
-      safe = λ i. a p.nodes (take i p.events) l;
-      answers = λ done later f q. t (after_all (start p.nodes) done) f;
-      calls = λ done later f q. b p.nodes done f l;
-      grants = λ done later f owner name mode value valid q g. c p.nodes done f owner name mode value valid l g;
+      safe = λ i. a OfAll p.nodes (take i p.events) l;
+      answers = λ done later f q. t (after_all (start OfAll p.nodes) done) f;
+      calls = λ done later f q. b OfAll p.nodes done f l;
+      grants = λ done later f owner name mode value valid q g. c OfAll p.nodes done f owner name mode value valid l g;
     }

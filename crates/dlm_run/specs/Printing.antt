@@ -9,6 +9,7 @@ use Rattle.plain_texts.specs.Reports.{newline}
 use Rattle.dlm_core.specs.declared.events.Event.{Event}
 use Rattle.dlm_core.specs.declared.events.Told.{Told}
 use Rattle.dlm_core.specs.declared.events.Told.TheVariants as told
+use Rattle.dlm_core.specs.declared.rules.BlockRule.TheVariants.{OfAll}
 use Rattle.dlm_core.specs.States.{State, start}
 use Rattle.dlm_core.specs.Events.{after, told_of}
 use Rattle.dlm_run.specs.Plays.{Play}
@@ -52,4 +53,4 @@ lines_text k s [] = []
 lines_text k s (e ∷ es) = line_text k (told_of e s) ++ lines_text (k + 1) (after e s) es
 
 abbrev pub run_text : Play → List ℕ
-run_text s = lines_text 1 (start s.nodes) s.events
+run_text s = lines_text 1 (start OfAll s.nodes) s.events

@@ -4,6 +4,7 @@ use Rattle.std.specs.Io.KnownBytes.{Appends}
 use Rattle.base_words.specs.Faults.{Rose}
 use Rattle.fx_text.specs.Streams.{AppendsStart}
 use Rattle.plain_texts.specs.Reports.{newline}
+use Rattle.dlm_core.specs.declared.rules.BlockRule.TheVariants.{OfAll}
 use Rattle.dlm_core.specs.States.{start}
 use Rattle.dlm_core.specs.Lanes.{BeliefsGoTogether}
 use Rattle.plain_cat.specs.declared.mode.Mode.{Mode}
@@ -50,11 +51,11 @@ status_code status.NoMemory = 7
 -- them. Each of their answers is true. At each of them the tables go by calls of the lock manager. Each grant that one of them tells of
 -- was given by an earlier one.
 pub record KeepsTheRules (s : Play) : Type 0 where
-  pub safe : (i : ℕ) → BeliefsGoTogether (after_all (start s.nodes) (take i s.events))
-  pub answers : (done later : List Event) (e : Event) → s.events ≡ done ++ (e ∷ later) → IsAnswered e (after_all (start s.nodes) done) (after e (after_all (start s.nodes) done)) (told_of e (after_all (start s.nodes) done))
-  pub calls : (done later : List Event) (e : Event) → s.events ≡ done ++ (e ∷ later) → GoesByCalls e (after_all (start s.nodes) done) (after e (after_all (start s.nodes) done))
+  pub safe : (i : ℕ) → BeliefsGoTogether (after_all (start OfAll s.nodes) (take i s.events))
+  pub answers : (done later : List Event) (e : Event) → s.events ≡ done ++ (e ∷ later) → IsAnswered e (after_all (start OfAll s.nodes) done) (after e (after_all (start OfAll s.nodes) done)) (told_of e (after_all (start OfAll s.nodes) done))
+  pub calls : (done later : List Event) (e : Event) → s.events ≡ done ++ (e ∷ later) → GoesByCalls e (after_all (start OfAll s.nodes) done) (after e (after_all (start OfAll s.nodes) done))
   pub grants : (done later : List Event) (e : Event) (owner : Owner) (name : LockName) (mode : Mode) (value : List ℕ) (valid : Bool) → s.events ≡ done ++ (e ∷ later)
-      → told_of e (after_all (start s.nodes) done) ≡ told.Granted owner name mode value valid → TellsTruly (start s.nodes) done e owner name mode value valid
+      → told_of e (after_all (start OfAll s.nodes) done) ≡ told.Granted owner name mode value valid → TellsTruly (start OfAll s.nodes) done e owner name mode value valid
 
 -- these bytes are a script, and this is said of it
 abbrev pub IsPlayed : List ℕ → (Play → Type 0) → Type 0

@@ -3,11 +3,12 @@ ghost use Rattle.std.specs.Prelude.{◌≡◌, IfOk, IsNone, true};
 ghost use Rattle.std.specs.Fs.{new_options, with_read, with_write};
 
 use crate::LockFile;
-use blk_drive::{FileImage, NoMemory};
+use blk_drive::NoMemory;
+use blk_files::{FileImage, SystemFile};
 use std::alloc::Global;
 use std::fs;
 use std::fs::{File, OpenFile, OpenOptions};
-use std::io::{Read, Seek, Write};
+use std::os::unix::fs::FileExt;
 use std::rt::Files;
 
 /// What a program does with an image.
@@ -23,12 +24,12 @@ pub enum Access {
 /// An image that was opened, and a second handle of its file, of which a sync is due before anything is told. An image that is
 /// only read has none, and an image without a file.
 #[derive(Drop)]
-pub struct Held<F: Drop> {
-    pub image: FileImage<F>,
+pub struct Held<F: FileExt + OpenFile + Drop> {
+    pub image: FileImage<SystemFile<F>>,
     pub due: Option<F>,
 }
 
-impl<F: Drop> Held<F> {
+impl<F: FileExt + OpenFile + Drop> Held<F> {
     // No image, as where it could not be opened.
     fn absent() -> Held<F>
         ensures { IsNone result.due }
@@ -64,7 +65,7 @@ fn is_file<R: Files>(rt: &R, path: &str) -> bool {
 }
 
 // Holds the file of an image that may be written: locked for this opening alone, and with a second handle.
-fn held_alone<F: Read + Write + Seek + OpenFile + LockFile + Drop>(
+fn held_alone<F: FileExt + OpenFile + LockFile + Drop>(
     alloc: Global,
     file: F,
 ) -> Result<Held<F>, NoMemory> {
@@ -74,7 +75,7 @@ fn held_alone<F: Read + Write + Seek + OpenFile + LockFile + Drop>(
     let Ok(due) = file.try_clone() else {
         return Ok(Held::absent());
     };
-    let image = FileImage::new(alloc, file)?;
+    let image = FileImage::new(alloc, SystemFile::new(file))?;
     Ok(Held {
         image,
         due: Some(due),
@@ -82,7 +83,7 @@ fn held_alone<F: Read + Write + Seek + OpenFile + LockFile + Drop>(
 }
 
 // Holds the file of an image that is only read: its lock is shared, and no sync is due.
-fn held_shared<F: Read + Write + Seek + OpenFile + LockFile + Drop>(
+fn held_shared<F: FileExt + OpenFile + LockFile + Drop>(
     alloc: Global,
     file: F,
 ) -> Result<Held<F>, NoMemory>
@@ -91,7 +92,7 @@ fn held_shared<F: Read + Write + Seek + OpenFile + LockFile + Drop>(
     if !file.try_shared() {
         return Ok(Held::absent());
     }
-    let image = FileImage::new(alloc, file)?;
+    let image = FileImage::new(alloc, SystemFile::new(file))?;
     Ok(Held { image, due: None })
 }
 
@@ -103,7 +104,7 @@ pub fn image_at<R: Files + AllocGlobal>(
     access: Access,
 ) -> Result<Held<R::File>, NoMemory>
 where
-    R::File: LockFile,
+    R::File: FileExt + LockFile,
     ensures { access ≡ Access.Look → IfOk result (λ held. IsNone held.due) }
 {
     if !is_file(rt, path) {

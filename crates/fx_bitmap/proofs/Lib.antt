@@ -2,3 +2,4 @@ pub mod Bytes
 pub mod Blocks
 pub mod Counts
 pub mod BitRuns
+pub mod Walks

@@ -37,10 +37,19 @@ abbrev pub IsFirstSet : Block → ℕ → Option ℕ → Type 0
 IsFirstSet b from None = (i : ℕ) → from ≤ i → i < 4096 → bit_at b i ≡ false
 IsFirstSet b from (Some i) = (from ≤ i) × (i < 4096) × (bit_at b i ≡ true) × ((j : ℕ) → from ≤ j → j < i → bit_at b j ≡ false)
 
+-- the first clear bit at or behind `from`, or none where all from there on are set
+abbrev pub IsFirstClear : Block → ℕ → Option ℕ → Type 0
+IsFirstClear b from None = (i : ℕ) → from ≤ i → i < 4096 → bit_at b i ≡ true
+IsFirstClear b from (Some i) = (from ≤ i) × (i < 4096) × (bit_at b i ≡ false) × ((j : ℕ) → from ≤ j → j < i → bit_at b j ≡ true)
+
 -- how many of the numbers below n pass a test
 unfoldable pub count_below : (ℕ → Bool) → ℕ → ℕ
 count_below test zero = 0
 count_below test (suc n) = count_below test n + (if test n then 1 else 0)
+
+-- how many of the first n bits are set
+unfoldable pub count_set_below : Block → ℕ → ℕ
+count_set_below b n = count_below (bit_at b) n
 
 -- how many bits are set
 unfoldable pub count_set : Block → ℕ

@@ -8,15 +8,16 @@
 //! ```
 //!
 //! `set_bits` and `clear_bits` put a run of bits, and leave each other bit as it was (`bits`). `first_set_from` gives the lowest
-//! set bit from there on, and none if and only if all are clear. Two blocks with the same bits are equal (`bits_tell_the_block`).
+//! set bit from there on, and none if and only if all are clear; `first_clear_from` does so with set and clear in the place of
+//! each other. `count_set` and `count_set_below` count set bits. These walks pass whole bytes. Two blocks with the same bits are equal (`bits_tell_the_block`).
 //! No call takes memory.
 //!
-//! `vol_parts`, the writes of commands (`op_freeing`, `core_space`) and mending use it.
+//! `vol_parts`, the writes of commands (`op_steps`, `core_space`) and mending use it.
 #![tactic(auto)]
 
-ghost use Rattle.std.specs.Prelude.{◌≡◌, ◌+◌, ◌≤◌, ◌<◌, ◌==◌, ◌≢◌, ℕ, true, false, if◌then◌else◌};
+ghost use Rattle.std.specs.Prelude.{◌≡◌, ◌+◌, ◌≤◌, ◌<◌, ◌==◌, ◌*◌, ◌≢◌, ℕ, true, false, if◌then◌else◌};
 ghost use Rattle.base_words.specs.Fields.{IsBytes};
-ghost use Rattle.fx_bitmap.specs.Bits.{byte_bit, bit_at, bits_put, ArePut, IsFirstSet, BitsTellTheBlock, count_set};
+ghost use Rattle.fx_bitmap.specs.Bits.{byte_bit, bit_at, bits_put, ArePut, IsFirstSet, IsFirstClear, BitsTellTheBlock, count_set, count_set_below};
 
 use base_words::Block;
 
@@ -47,12 +48,36 @@ pub fn clear_bits(b: &mut Block, from: u32, n: u32)
     put_bits(b, from, n, false);
 }
 
-/// The first set bit at `from` or behind it, if there is one.
+/// The first set bit at `from` or behind it, if there is one. It passes whole bytes of clear bits.
+#[tactic(auto, using(crate::proofs::Walks::clear_byte))]
 pub fn first_set_from(b: &Block, from: u32) -> Option<u32>
     ensures { IsFirstSet b.now from result }
 {
-    for i in from..4096 {
-        if bit(b, i) {
+    let mut i = from;
+    while i < 4096 {
+        if i % 8 == 0 && b[(i / 8) as usize] == 0 {
+            i += 8;
+        } else if bit(b, i) {
+            return Some(i);
+        } else {
+            i += 1;
+        }
+    }
+    None
+}
+
+/// The first clear bit at `from` or behind it, if there is one. It passes whole bytes of set bits.
+#[tactic(auto, using(crate::proofs::Walks::set_byte))]
+pub fn first_clear_from(b: &Block, from: u32) -> Option<u32>
+    ensures { IsFirstClear b.now from result }
+{
+    let mut i = from;
+    while i < 4096 {
+        if i % 8 == 0 && b[(i / 8) as usize] == 255 {
+            i += 8;
+        } else if bit(b, i) {
+            i += 1;
+        } else {
             return Some(i);
         }
     }
@@ -60,12 +85,39 @@ pub fn first_set_from(b: &Block, from: u32) -> Option<u32>
 }
 
 /// How many of the 4,096 bits are set.
+#[tactic(auto, unfolding(crate::specs::Bits::count_set, crate::specs::Bits::count_set_below))]
 pub fn count_set(b: &Block) -> u32
     ensures { result ≡ count_set b.now }
 {
+    count_bytes(b, 512)
+}
+
+/// How many of the first n bits are set, 0 to 4,096 of them. It counts whole bytes at once.
+#[tactic(auto, unfolding(crate::specs::Bits::count_below, crate::specs::Bits::count_set_below))]
+pub fn count_set_below(b: &Block, n: u32) -> u32
+    requires { n ≤ 4096 }
+    ensures count { result ≡ count_set_below b.now n }
+    ensures most { result ≤ n }
+{
+    let whole = n / 8;
+    let mut count = count_bytes(b, whole as usize);
+    for i in 8 * whole..n {
+        if bit(b, i) {
+            count += 1;
+        }
+    }
+    count
+}
+
+// How many bits of the first n bytes are set.
+fn count_bytes(b: &Block, n: usize) -> u32
+    requires { n ≤ 512 }
+    ensures count { result ≡ count_set_below b.now (8 * n) }
+    ensures most { result ≤ 8 * n }
+{
     let mut count = 0;
-    for byte in b {
-        count += byte.count_ones();
+    for k in 0..n {
+        count += b[k].count_ones();
     }
     count
 }

@@ -1,3 +1,5 @@
+//! The order of entries in a directory, by name and falling version.
+
 ghost use Rattle.std.specs.Prelude.{◌≡◌, true, drop};
 ghost use Rattle.std.specs.Str.{bytes_eq};
 ghost use Rattle.std.specs.List.{list_all, zip};

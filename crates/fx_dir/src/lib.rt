@@ -14,6 +14,8 @@
 //! read as the old entries, and after the last with the new one (`Inserts`). What is packed reads back (`packed`: `read`).
 //!
 //! `vol_parts`, the writes of commands (`op_steps`) and mending use it.
+//!
+//! Whether one more entry has room in the blocks of a directory, told without a list and without packing.
 #![tactic(auto)]
 
 ghost use Rattle.std.specs.Prelude.{◌≡◌, ◌≤◌, ◌-◌, ◌++◌, length, replicate};
@@ -33,6 +35,7 @@ mod packing;
 mod reading;
 mod records;
 mod renaming;
+mod room;
 mod searching;
 mod writing;
 
@@ -44,6 +47,7 @@ pub use moves::{Removal, insert_into, insert_moves, pack_moves, remove_from, rem
 pub use packing::packed;
 pub use reading::{read_dir, read_sound};
 pub use renaming::{Renaming, rename_into};
+pub use room::has_room;
 pub use searching::find_in;
 
 /// No memory was to be had.

@@ -1,3 +1,5 @@
+//! The writes by which an entry comes, goes or is packed, block by block.
+
 ghost use Rattle.std.specs.Prelude.{◌≡◌, ◌<◌, ◌≤◌, ◌^◌, ◌++◌, true, false, option_map, position, IfOk, OnOk, IfSome, IsOk, Ok, map, length};
 ghost use Rattle.std.specs.List.{position_or_len};
 ghost use Rattle.std.specs.Result.{ForOk};

@@ -1,3 +1,5 @@
+//! Packing: each entry goes into the current block if it has room there, and else into the next.
+
 ghost use Rattle.std.specs.Prelude.{◌≡◌, ◌<◌, ◌≤◌, ◌+◌, ◌++◌, true, None, option_map, Ok, map, IfOk, IfSome, length, take, drop, slice_index_or, []};
 ghost use Rattle.base_words.specs.Packing.{cost, filled, unfilled, pack, over};
 ghost use Rattle.fx_dir.specs.Lists.{Each};

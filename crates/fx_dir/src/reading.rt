@@ -1,3 +1,5 @@
+//! The entries of a directory, read from its blocks.
+
 ghost use Rattle.std.specs.Prelude.{◌≡◌, ◌≤◌, ◌+◌, ◌++◌, Result, Ok, Err, Some, IsOk, IfOk, OnOk, true, length, take, drop};
 ghost use Rattle.std.specs.List.{list_all};
 ghost use Rattle.fx_dir.specs.Entries.{before, rises};

@@ -1,3 +1,5 @@
+//! The records of one directory block, read one by one.
+
 ghost use Rattle.std.specs.Prelude.{◌≡◌, ◌+◌, ◌-◌, ◌*◌, ◌/◌, ◌≤◌, ◌<◌, ◌++◌, IfOk, OnOk, IsSome, length, drop};
 ghost use Rattle.std.specs.Bool.{OnTrue};
 ghost use Rattle.fx_dir.specs.Directory.{entries_at};

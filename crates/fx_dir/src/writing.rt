@@ -1,3 +1,5 @@
+//! A directory block, written from its entries.
+
 ghost use Rattle.std.specs.Prelude.{◌≡◌, ◌+◌, ◌≤◌, ◌<◌, suc, None, length};
 ghost use Rattle.base_words.specs.Fields.{put};
 ghost use Rattle.base_words.specs.Packing.{padded, size};

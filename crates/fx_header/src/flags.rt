@@ -1,3 +1,5 @@
+//! The file characteristics of a header (FILECHAR).
+
 ghost use Rattle.std.specs.Prelude.{⊤, [], ◌∷◌, codes};
 
 use bitflags::{Flag, Flags, bitflag_items};

@@ -1,3 +1,5 @@
+//! Retrieval pointers, read as runs of blocks.
+
 ghost use Rattle.std.specs.Prelude.{◌≡◌, ◌≤◌, ◌==◌, length, IsTrue};
 ghost use Rattle.fx_header.specs.Headers.{has_offsets, has_map, map_in_use, map_area, map_bytes, runs_in};
 ghost use Rattle.fx_header.specs.Iter.{runs_left};

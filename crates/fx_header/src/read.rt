@@ -1,3 +1,5 @@
+//! A header slot, read: what it says, or the first test that it fails.
+
 ghost use Rattle.std.specs.Prelude.{◌≡◌, ◌+◌, ◌≤◌, ◌<◌, IsTrue, IfOk};
 ghost use Rattle.base_words.specs.Fields.{field};
 ghost use Rattle.fx_header.specs.Headers.{high_first, number_of, is_free, has_level, has_offsets, is_on_this_volume, has_segment, has_map, has_end, link_of, fields_of, header_read, HasRuns};

@@ -1,3 +1,5 @@
+//! What a header slot says: its fields, or why it is no sound header.
+
 use thiserror::Error;
 
 /// What a header slot says.

@@ -1,3 +1,5 @@
+//! Headers, written: new ones and free slots, and single fields of one that is there.
+
 ghost use Rattle.std.specs.Prelude.{◌≡◌, ◌+◌, ◌-◌, ◌≤◌, ◌<◌, ◌^◌, drop, length, true, IsTrue};
 ghost use Rattle.base_words.specs.Fields.{put_field};
 ghost use Rattle.base_words.specs.Tables.{laid};

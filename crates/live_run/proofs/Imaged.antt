@@ -1,5 +1,5 @@
 -- A script on an image: why the blocks gave no end is why the image gave none.
-use Rattle.std.proofs.Common.{◌≤◌, ℕ, List, refl, subst, inl}
+use Rattle.std.proofs.Common.{◌≡◌, ◌≤◌, ℕ, List, refl, subst, inl}
 use Rattle.base_words.specs.Fields.{Block}
 use Rattle.blk_drive.specs.Images.{IsInside, IsOutside}
 use Rattle.blk_drive.specs.Loads.{HasLoadCause}
@@ -24,19 +24,20 @@ accepts job.Live script bs new text h = h.live.accepted
 accepts job.LiveRebuild script bs new text h = h.over.end.live.accepted
 
 module _ (what : Job) (script : Script) (size : ℕ) (old new : List Block) where
-  quiet_on : (first has : ℕ) (s : Status) → IsInside size → IsQuiet what script old new s → IsImageEnd what script size old new first has s
-  quiet_on first has (status.NotAccepted f) inside end = ((inside, end.0), end.1)
-  quiet_on first has status.NoMemory inside end = end
-  quiet_on first has s inside end = absurd end
+  quiet_on : (first has lost losing : ℕ) (s : Status) → IsInside size → IsQuiet what script old new s → IsImageEnd what script size old new first has lost losing s
+  quiet_on first has lost losing (status.NotAccepted f) inside end = ((inside, end.0), end.1)
+  quiet_on first has lost losing status.NoMemory inside end = end
+  quiet_on first has lost losing s inside end = absurd end
 
-  pub halt_on : (first had has : ℕ) (x : Halt) → IsInside size → first ≤ had → IsHalt what script old new had has x → IsImageHalt what script size old new first has x
-  halt_on first had has (halt.Cut text) inside later end = (rose_later first had has later end.0, end.1)
-  halt_on first had has halt.NoLines inside later end = (rose_later first had has later end.0, end.1)
-  halt_on first had has (halt.Unmended text f) inside later end = (record { inside = inside; accepted = end.0 }, end.1)
-  halt_on first had has (halt.By s) inside later end = quiet_on first has s inside end
+  pub halt_on : (first had has lost losing : ℕ) (x : Halt) → IsInside size → first ≤ had → IsHalt what script old new had has x → IsImageHalt what script size old new first has lost losing x
+  halt_on first had has lost losing (halt.Cut text) inside later end = (rose_later first had has later end.0, end.1)
+  halt_on first had has lost losing halt.NoLines inside later end = (rose_later first had has later end.0, end.1)
+  halt_on first had has lost losing (halt.Unmended text f) inside later end = (record { inside = inside; accepted = end.0 }, end.1)
+  halt_on first had has lost losing (halt.By s) inside later end = quiet_on first has lost losing s inside end
 
--- why an image was not loaded
-pub load_end : (what : Job) (script : Script) (size : ℕ) (bs : List Block) (had has : ℕ) (f : LoadFault) → HasLoadCause size had has f → IsImageEnd what script size bs bs had has (load_status f)
-load_end what script size bs had has load.ImageFault cause = (cause, refl)
-load_end what script size bs had has (load.BadSize n) cause = ((cause.0, subst IsOutside cause.0 cause.1), refl)
-load_end what script size bs had has load.NoMemory cause = inl refl
+-- why an image was not loaded: no write was lost
+pub load_end : (what : Job) (script : Script) (size : ℕ) (bs : List Block) (had has lost losing : ℕ) (f : LoadFault) → losing ≡ lost → HasLoadCause size had has f
+    → IsImageEnd what script size bs bs had has lost losing (load_status f)
+load_end what script size bs had has lost losing load.ImageFault kept cause = (cause, refl, kept)
+load_end what script size bs had has lost losing (load.BadSize n) kept cause = ((cause.0, subst IsOutside cause.0 cause.1), refl)
+load_end what script size bs had has lost losing load.NoMemory kept cause = inl refl

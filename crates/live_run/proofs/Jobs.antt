@@ -15,13 +15,13 @@ use Rattle.live_run.specs.Statuses.{OfGiven, IsImageEnd, IsImageHalt, IsReported
 use Rattle.live_run.proofs.Imaged.{accepts}
 
 -- why a text gave no script is why the call gave no report, and the image stays
-pub script_end : (what : Job) (bytes : List ℕ) (size : ℕ) (bs : List Block) (read reading had has : ℕ) (s : Status) → IsScriptEnd bytes read reading s → IsRunEnd what bytes size bs bs read reading had has s
-script_end what bytes size bs read reading had has status.ScriptFault h = (h, refl)
-script_end what bytes size bs read reading had has status.ScriptTooLong h = (h, refl)
-script_end what bytes size bs read reading had has (status.BadScript n) h = (h, refl)
-script_end what bytes size bs read reading had has status.TooMany h = (h, refl)
-script_end what bytes size bs read reading had has status.NoMemory h = inl refl
-script_end what bytes size bs read reading had has s h = absurd h
+pub script_end : (what : Job) (bytes : List ℕ) (size : ℕ) (bs : List Block) (read reading had has lost losing : ℕ) (s : Status) → IsScriptEnd bytes read reading s → IsRunEnd what bytes size bs bs read reading had has lost losing s
+script_end what bytes size bs read reading had has lost losing status.ScriptFault h = (h, refl)
+script_end what bytes size bs read reading had has lost losing status.ScriptTooLong h = (h, refl)
+script_end what bytes size bs read reading had has lost losing (status.BadScript n) h = (h, refl)
+script_end what bytes size bs read reading had has lost losing status.TooMany h = (h, refl)
+script_end what bytes size bs read reading had has lost losing status.NoMemory h = inl refl
+script_end what bytes size bs read reading had has lost losing s h = absurd h
 
 module _ (what : Job) (bytes : List ℕ) (script : Script) (spelt : SpellsWithin script bytes) (size : ℕ) (old new : List Block) where
   -- what holds of the script holds of one that is given
@@ -35,17 +35,17 @@ module _ (what : Job) (bytes : List ℕ) (script : Script) (spelt : SpellsWithin
     report = given_on (λ s. IsEnd what s old new text) h;
   }
 
-  run_end : (read reading had has : ℕ) (s : Status) → IsImageEnd what script size old new had has s → IsRunEnd what bytes size old new read reading had has s
-  run_end read reading had has status.ImageFault end = (good bytes script spelt, end.0, end.1)
-  run_end read reading had has (status.BadSize n) end = ((good bytes script spelt, end.0.0, end.0.1), end.1)
-  run_end read reading had has (status.NotAccepted f) end = ((good bytes script spelt, end.0.0, end.0.1), end.1)
-  run_end read reading had has status.NoMemory (inl e) = inl e
-  run_end read reading had has status.NoMemory (inr d) = inr (given_on (λ s. IsLacking what s old new) d)
-  run_end read reading had has s end = absurd end
+  run_end : (read reading had has lost losing : ℕ) (s : Status) → IsImageEnd what script size old new had has lost losing s → IsRunEnd what bytes size old new read reading had has lost losing s
+  run_end read reading had has lost losing status.ImageFault end = (good bytes script spelt, end.0, end.1, end.2)
+  run_end read reading had has lost losing (status.BadSize n) end = ((good bytes script spelt, end.0.0, end.0.1), end.1)
+  run_end read reading had has lost losing (status.NotAccepted f) end = ((good bytes script spelt, end.0.0, end.0.1), end.1)
+  run_end read reading had has lost losing status.NoMemory (inl e) = inl e
+  run_end read reading had has lost losing status.NoMemory (inr d) = inr (given_on (λ s. IsLacking what s old new) d)
+  run_end read reading had has lost losing s end = absurd end
 
   -- why the image gave no end is why the call gave no report
-  pub run_halt : (read reading had has : ℕ) (x : Halt) → IsImageHalt what script size old new had has x → IsRunHalt what bytes size old new read reading had has x
-  run_halt read reading had has (halt.Cut text) end = (good bytes script spelt, end.0, given_on (λ s. IsCut what s old new text.items) end.1)
-  run_halt read reading had has halt.NoLines end = (good bytes script spelt, end.0, given_on (λ s. (text : List ℕ) × IsCut what s old new text) end.1)
-  run_halt read reading had has (halt.Unmended text f) end = (good bytes script spelt, end.0, given_on (λ s. IsUnmended what s old new f text.items) end.1)
-  run_halt read reading had has (halt.By s) end = run_end read reading had has s end
+  pub run_halt : (read reading had has lost losing : ℕ) (x : Halt) → IsImageHalt what script size old new had has lost losing x → IsRunHalt what bytes size old new read reading had has lost losing x
+  run_halt read reading had has lost losing (halt.Cut text) end = (good bytes script spelt, end.0, given_on (λ s. IsCut what s old new text.items) end.1)
+  run_halt read reading had has lost losing halt.NoLines end = (good bytes script spelt, end.0, given_on (λ s. (text : List ℕ) × IsCut what s old new text) end.1)
+  run_halt read reading had has lost losing (halt.Unmended text f) end = (good bytes script spelt, end.0, given_on (λ s. IsUnmended what s old new f text.items) end.1)
+  run_halt read reading had has lost losing (halt.By s) end = run_end read reading had has lost losing s end

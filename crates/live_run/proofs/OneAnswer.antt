@@ -11,9 +11,9 @@ answered_by : (what : Option Job) (bytes : List ℕ) (size : ℕ) (old new : Lis
 answered_by None bytes size old new s due law = tt
 answered_by (Some what) bytes size old new s due law = λ good inside none v. law what bytes size old new s good inside none v due
 
-module _ (what : Option Job) (size : ℕ) (was now : Option (List ℕ)) (read reading had has before after : ℕ) (s : Status) where
-  pub called : NoOtherLiveIsDue → GoodLiveRunsAreAnswered → (bytes : List ℕ) (old new : List Block) → IsAnswer what bytes size old new was now read reading had has before after s
-      → IsCall what bytes size old new was now read reading had has before after s
+module _ (what : Option Job) (size : ℕ) (was now : Option (List ℕ)) (read reading had has lost losing before after : ℕ) (s : Status) where
+  pub called : NoOtherLiveIsDue → GoodLiveRunsAreAnswered → (bytes : List ℕ) (old new : List Block) → IsAnswer what bytes size old new was now read reading had has lost losing before after s
+      → IsCall what bytes size old new was now read reading had has lost losing before after s
   called alone good bytes old new a = record {
     answer = a;
     alone = alone what bytes size old new s a.due;

@@ -19,19 +19,19 @@ use Rattle.live_run.specs.Lives.{IsEnd, IsCut, IsLacking, IsUnmended}
 -- ---- on an image
 
 -- why a script came to no end on an image, but for a write that failed and a drive that cannot be mended, and what the image has then
-abbrev pub IsImageEnd : Job → Script → ℕ → List Block → List Block → ℕ → ℕ → Status → Type 0
-IsImageEnd what script size old new had has status.ImageFault = Rose had has × (new ≡ old)
-IsImageEnd what script size old new had has (status.BadSize n) = ((n ≡ size) × IsOutside size) × (new ≡ old)
-IsImageEnd what script size old new had has (status.NotAccepted f) = (IsInside size × IsFirstFound old f) × (new ≡ old)
-IsImageEnd what script size old new had has status.NoMemory = (new ≡ old) ⊎ IsLacking what script old new
-IsImageEnd what script size old new had has s = ⊥
+abbrev pub IsImageEnd : Job → Script → ℕ → List Block → List Block → ℕ → ℕ → ℕ → ℕ → Status → Type 0
+IsImageEnd what script size old new had has lost losing status.ImageFault = Rose had has × (new ≡ old) × (losing ≡ lost)
+IsImageEnd what script size old new had has lost losing (status.BadSize n) = ((n ≡ size) × IsOutside size) × (new ≡ old)
+IsImageEnd what script size old new had has lost losing (status.NotAccepted f) = (IsInside size × IsFirstFound old f) × (new ≡ old)
+IsImageEnd what script size old new had has lost losing status.NoMemory = (new ≡ old) ⊎ IsLacking what script old new
+IsImageEnd what script size old new had has lost losing s = ⊥
 
 -- why it came to none
-abbrev pub IsImageHalt : Job → Script → ℕ → List Block → List Block → ℕ → ℕ → Halt → Type 0
-IsImageHalt what script size old new had has (halt.Cut text) = Rose had has × IsCut what script old new text.items
-IsImageHalt what script size old new had has halt.NoLines = Rose had has × ((text : List ℕ) × IsCut what script old new text)
-IsImageHalt what script size old new had has (halt.Unmended text f) = IsAccepted size old × IsUnmended what script old new f text.items
-IsImageHalt what script size old new had has (halt.By s) = IsImageEnd what script size old new had has s
+abbrev pub IsImageHalt : Job → Script → ℕ → List Block → List Block → ℕ → ℕ → ℕ → ℕ → Halt → Type 0
+IsImageHalt what script size old new had has lost losing (halt.Cut text) = Rose had has × IsCut what script old new text.items
+IsImageHalt what script size old new had has lost losing halt.NoLines = Rose had has × ((text : List ℕ) × IsCut what script old new text)
+IsImageHalt what script size old new had has lost losing (halt.Unmended text f) = IsAccepted size old × IsUnmended what script old new f text.items
+IsImageHalt what script size old new had has lost losing (halt.By s) = IsImageEnd what script size old new had has lost losing s
 
 -- ---- of the script that is read
 
@@ -51,13 +51,13 @@ pub record IsReported (what : Job) (bytes : List ℕ) (size : ℕ) (old new : Li
   pub accepted : IsAccepted size old
   pub report : IsReportOn what bytes old new text
 
--- The text of a fault of the image: that of a call that a write cut short; or that of the status alone, and the image has its blocks. The
--- text of a drive that cannot be mended has the lines of the history in front.
-abbrev pub IsLiveFaultText : Job → List ℕ → List Block → List Block → Status → List ℕ → Type 0
-IsLiveFaultText what bytes old new status.ImageFault text =
-    ((new ≡ old) × (text ≡ status_text status.ImageFault)) ⊎ OfGiven bytes (λ script. IsCut what script old new text)
-IsLiveFaultText what bytes old new (status.NotMendable f) text = OfGiven bytes (λ script. IsUnmended what script old new f text)
-IsLiveFaultText what bytes old new s text = IsPlainText s text
+-- The text of a fault of the image, whose count of lost writes was `lost` and is `losing`: that of a call that a write cut short; or that of
+-- the status alone, only if no write was lost, and the image has its blocks. The text of a drive that cannot be mended has the lines of the history in front.
+abbrev pub IsLiveFaultText : Job → List ℕ → ℕ → ℕ → List Block → List Block → Status → List ℕ → Type 0
+IsLiveFaultText what bytes lost losing old new status.ImageFault text =
+    ((new ≡ old) × (losing ≡ lost) × (text ≡ status_text status.ImageFault)) ⊎ OfGiven bytes (λ script. IsCut what script old new text)
+IsLiveFaultText what bytes lost losing old new (status.NotMendable f) text = OfGiven bytes (λ script. IsUnmended what script old new f text)
+IsLiveFaultText what bytes lost losing old new s text = IsPlainText s text
 
 -- the drive cannot be mended, by this finding
 abbrev pub IsUnmendedOn : Job → List ℕ → List Block → List Block → Finding → Type 0
@@ -82,9 +82,9 @@ abbrev pub IsTextOf : Option Job → List ℕ → List Block → List Block → 
 IsTextOf (Some what) bytes old new text = IsReportOn what bytes old new text
 IsTextOf None bytes old new text = ⊥
 
-abbrev pub IsFaultTextOf : Option Job → List ℕ → List Block → List Block → Status → List ℕ → Type 0
-IsFaultTextOf (Some what) bytes old new s text = IsLiveFaultText what bytes old new s text
-IsFaultTextOf None bytes old new s text = IsPlainText s text
+abbrev pub IsFaultTextOf : Option Job → List ℕ → ℕ → ℕ → List Block → List Block → Status → List ℕ → Type 0
+IsFaultTextOf (Some what) bytes lost losing old new s text = IsLiveFaultText what bytes lost losing old new s text
+IsFaultTextOf None bytes lost losing old new s text = IsPlainText s text
 
 -- a call has come to its end, and left the image so
 abbrev pub IsEndOn : Job → List ℕ → List Block → List Block → Type 0
@@ -108,23 +108,23 @@ IsImageAfter None bytes old new s = new ≡ old
 -- ---- how a call came to no report
 
 -- of the script, of the load, or of the blocks
-abbrev pub IsRunEnd : Job → List ℕ → ℕ → List Block → List Block → ℕ → ℕ → ℕ → ℕ → Status → Type 0
-IsRunEnd what bytes size old new read reading had has status.ScriptFault = Rose read reading × (new ≡ old)
-IsRunEnd what bytes size old new read reading had has status.ScriptTooLong = IsTooLong bytes × (new ≡ old)
-IsRunEnd what bytes size old new read reading had has (status.BadScript n) = IsBad n bytes × (new ≡ old)
-IsRunEnd what bytes size old new read reading had has status.TooMany = IsOverfull bytes × (new ≡ old)
-IsRunEnd what bytes size old new read reading had has status.ImageFault = IsGood bytes × Rose had has × (new ≡ old)
-IsRunEnd what bytes size old new read reading had has (status.BadSize n) = (IsGood bytes × (n ≡ size) × IsOutside size) × (new ≡ old)
-IsRunEnd what bytes size old new read reading had has (status.NotAccepted f) = (IsGood bytes × IsInside size × IsFirstFound old f) × (new ≡ old)
-IsRunEnd what bytes size old new read reading had has status.NoMemory = (new ≡ old) ⊎ OfGiven bytes (λ script. IsLacking what script old new)
-IsRunEnd what bytes size old new read reading had has s = ⊥
+abbrev pub IsRunEnd : Job → List ℕ → ℕ → List Block → List Block → ℕ → ℕ → ℕ → ℕ → ℕ → ℕ → Status → Type 0
+IsRunEnd what bytes size old new read reading had has lost losing status.ScriptFault = Rose read reading × (new ≡ old)
+IsRunEnd what bytes size old new read reading had has lost losing status.ScriptTooLong = IsTooLong bytes × (new ≡ old)
+IsRunEnd what bytes size old new read reading had has lost losing (status.BadScript n) = IsBad n bytes × (new ≡ old)
+IsRunEnd what bytes size old new read reading had has lost losing status.TooMany = IsOverfull bytes × (new ≡ old)
+IsRunEnd what bytes size old new read reading had has lost losing status.ImageFault = IsGood bytes × Rose had has × (new ≡ old) × (losing ≡ lost)
+IsRunEnd what bytes size old new read reading had has lost losing (status.BadSize n) = (IsGood bytes × (n ≡ size) × IsOutside size) × (new ≡ old)
+IsRunEnd what bytes size old new read reading had has lost losing (status.NotAccepted f) = (IsGood bytes × IsInside size × IsFirstFound old f) × (new ≡ old)
+IsRunEnd what bytes size old new read reading had has lost losing status.NoMemory = (new ≡ old) ⊎ OfGiven bytes (λ script. IsLacking what script old new)
+IsRunEnd what bytes size old new read reading had has lost losing s = ⊥
 
 -- or a write cut it short, or its drive cannot be mended
-abbrev pub IsRunHalt : Job → List ℕ → ℕ → List Block → List Block → ℕ → ℕ → ℕ → ℕ → Halt → Type 0
-IsRunHalt what bytes size old new read reading had has (halt.Cut text) =
+abbrev pub IsRunHalt : Job → List ℕ → ℕ → List Block → List Block → ℕ → ℕ → ℕ → ℕ → ℕ → ℕ → Halt → Type 0
+IsRunHalt what bytes size old new read reading had has lost losing (halt.Cut text) =
     IsGood bytes × Rose had has × OfGiven bytes (λ script. IsCut what script old new text.items)
-IsRunHalt what bytes size old new read reading had has halt.NoLines =
+IsRunHalt what bytes size old new read reading had has lost losing halt.NoLines =
     IsGood bytes × Rose had has × OfGiven bytes (λ script. (text : List ℕ) × IsCut what script old new text)
-IsRunHalt what bytes size old new read reading had has (halt.Unmended text f) =
+IsRunHalt what bytes size old new read reading had has lost losing (halt.Unmended text f) =
     IsGood bytes × IsAccepted size old × OfGiven bytes (λ script. IsUnmended what script old new f text.items)
-IsRunHalt what bytes size old new read reading had has (halt.By s) = IsRunEnd what bytes size old new read reading had has s
+IsRunHalt what bytes size old new read reading had has lost losing (halt.By s) = IsRunEnd what bytes size old new read reading had has lost losing s

@@ -1,3 +1,5 @@
+//! The live top call for a program, with the number of its status as an exit code.
+
 ghost use Rattle.std.specs.Prelude.{map, string_bytes};
 ghost use Rattle.std.specs.Process.{exit_status};
 ghost use Rattle.live_run.specs.Calls.{IsEnd};
@@ -36,9 +38,10 @@ pub fn exit_call<
       written = O.written out.old;
       script_faults = T.faults script.old;
       image_faults = I.faults image;
+      image_lost = I.lost image;
       out_faults = O.faults out.old;
     })
-        (O.written out.new) (I.told result.image) (T.faults script.new) (I.faults result.image) (O.faults out.new) (exit_status result.code) }
+        (O.written out.new) (I.told result.image) (T.faults script.new) (I.faults result.image) (I.lost result.image) (O.faults out.new) (exit_status result.code) }
 {
     blocks_are_counted(&image);
     match words_of(alloc, line) {

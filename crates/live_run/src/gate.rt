@@ -1,3 +1,5 @@
+//! A gate that threads pass before each step. Tests close it to choose an order.
+
 /// Called by a node's thread before each of its steps.
 pub trait Gate: Drop {
     /// Nodes and steps count from 1; the count of steps stays at the last value of 64 bits.

@@ -21,20 +21,18 @@
 
 mod calling;
 mod gate;
+mod laws;
 mod live;
 mod rest;
-mod theorems;
 mod threads;
 mod top;
 mod words;
 
 pub use calling::exit_call;
 pub use gate::{Gate, OpenGate};
+pub use laws::{good_live_runs_are_answered, no_other_live_status_is_due, one_live_status_is_due};
 pub use live::mounted;
 pub use rest::finish;
 pub use run_engine::{Called, Finished, Status, no_memory};
-pub use theorems::{
-    good_live_runs_are_answered, no_other_live_status_is_due, one_live_status_is_due,
-};
 pub use threads::{Task, tasks_of};
 pub use top::vmsclus_live;

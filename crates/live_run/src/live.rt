@@ -183,7 +183,7 @@ fn live_image<R: Threads + Wait + Sync, I: ImageDev + Send, G: Gate + Sync>(
     ensures inside { IfOk result.outcome (λ text. IsInside (I.size image)) }
     ensures ended { IfOk result.outcome (λ text. OfImage (I.size image) (I.told image) (I.told result.image) (λ old new. IsEnd job script.now old new text.items)) }
     ensures halt { IfErr result.outcome (λ h. OfImage (I.size image) (I.told image) (I.told result.image)
-        (λ old new. IsImageHalt job script.now (I.size image) old new (I.faults image) (I.faults result.image) h)) }
+        (λ old new. IsImageHalt job script.now (I.size image) old new (I.faults image) (I.faults result.image) (I.lost image) (I.lost result.image) h)) }
 {
     blocks_are_counted(&image);
     match Mirror::load(alloc, image) {
@@ -207,7 +207,7 @@ pub fn live_script<R: Threads + Wait + Sync, I: ImageDev + Send, T: TextIn, G: G
     ensures report { IfOk result.outcome (λ text. OfScript (T.left script.old) (λ bytes. OfImage (I.size image) (I.told image) (I.told result.image)
         (λ old new. IsReported job bytes (I.size image) old new text.items))) }
     ensures halt { IfErr result.outcome (λ h. OfScript (T.left script.old) (λ bytes. OfImage (I.size image) (I.told image) (I.told result.image)
-        (λ old new. IsRunHalt job bytes (I.size image) old new (T.faults script.old) (T.faults script.new) (I.faults image) (I.faults result.image) h))) }
+        (λ old new. IsRunHalt job bytes (I.size image) old new (T.faults script.old) (T.faults script.new) (I.faults image) (I.faults result.image) (I.lost image) (I.lost result.image) h))) }
 {
     blocks_are_counted(&image);
     match script_of(alloc, script) {

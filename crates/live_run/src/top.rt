@@ -1,11 +1,13 @@
+//! The live top call: a script with a thread for each node, and the volume mended then where that is asked.
+
 ghost use Rattle.std.specs.Prelude.{Some};
 ghost use Rattle.run_engine.specs.Inputs.{OfScript, OfImage};
 ghost use Rattle.live_run.specs.Calls.{IsAnswer, IsCall};
 ghost use Rattle.live_run.specs.Words.{job_of};
 
 use crate::gate::Gate;
+use crate::laws::{good_live_runs_are_answered, no_other_live_status_is_due};
 use crate::live::live_script;
-use crate::theorems::{good_live_runs_are_answered, no_other_live_status_is_due};
 use crate::words::{Job, job_of};
 use blk_drive::ImageDev;
 use fx_text::{TextIn, TextOut, Word};
@@ -26,7 +28,7 @@ fn live<R: Threads + Wait + Sync, I: ImageDev + Send, T: TextIn, O: TextOut, G: 
 ) -> Finished<I>
     ensures { OfScript (T.left script.old) (λ bytes. OfImage (I.size image) (I.told image) (I.told result.image) (λ old new.
         IsAnswer (Some job) bytes (I.size image) old new (O.written out.old) (O.written out.new)
-        (T.faults script.old) (T.faults script.new) (I.faults image) (I.faults result.image) (O.faults out.old) (O.faults out.new) result.status)) }
+        (T.faults script.old) (T.faults script.new) (I.faults image) (I.faults result.image) (I.lost image) (I.lost result.image) (O.faults out.old) (O.faults out.new) result.status)) }
 {
     let MendedRun { outcome, image } = live_script(rt, alloc, image, script, gate, job);
     match outcome {
@@ -53,7 +55,7 @@ fn done<R: Threads + Wait + Sync, I: ImageDev + Send, T: TextIn, O: TextOut, G: 
 ) -> Finished<I>
     ensures { OfScript (T.left script.old) (λ bytes. OfImage (I.size image) (I.told image) (I.told result.image) (λ old new.
         IsAnswer (job_of words.now) bytes (I.size image) old new (O.written out.old) (O.written out.new)
-        (T.faults script.old) (T.faults script.new) (I.faults image) (I.faults result.image) (O.faults out.old) (O.faults out.new) result.status)) }
+        (T.faults script.old) (T.faults script.new) (I.faults image) (I.faults result.image) (I.lost image) (I.lost result.image) (O.faults out.old) (O.faults out.new) result.status)) }
 {
     blocks_are_counted(&image);
     match job_of(words) {
@@ -96,7 +98,7 @@ pub fn vmsclus_live<
     // contract says which they are.
     ensures { OfScript (T.left script.old) (λ bytes. OfImage (I.size image) (I.told image) (I.told result.image) (λ old new.
         IsCall (job_of words.now) bytes (I.size image) old new (O.written out.old) (O.written out.new)
-        (T.faults script.old) (T.faults script.new) (I.faults image) (I.faults result.image) (O.faults out.old) (O.faults out.new) result.status)) }
+        (T.faults script.old) (T.faults script.new) (I.faults image) (I.faults result.image) (I.lost image) (I.lost result.image) (O.faults out.old) (O.faults out.new) result.status)) }
 {
     no_other_live_status_is_due();
     good_live_runs_are_answered();

@@ -1,3 +1,5 @@
+//! The words of a live call, and the job that they ask for.
+
 ghost use Rattle.std.specs.Prelude.{◌≡◌};
 ghost use Rattle.live_run.specs.Words.{named, paired, job_of};
 

@@ -10,7 +10,7 @@ use Rattle.lock_db.specs.Names.{is_same}
 use Rattle.lock_db.specs.Queues.{is_upward, is_writing, granted_upto, settled, without, without_node, lock_of}
 use Rattle.lock_db.specs.Resources.{fresh, is_used, goes_at_once, asked_of, converts_at_once, written, conversion_writes, regranted, queued_up, mode_held, converted_of, released_of, is_writer_of, dropped_of, recovered_of}
 use Rattle.lock_db.specs.Tables.{resource_at, placed, asked, tried, converted, converts_now, try_converted, released, dropped, recovered, is_ordered, IsTable, IsSettled}
-use Rattle.lock_db.specs.Laws.{BlockStays, BlockIs, somebody, RequestsKeepTheBlock, TriesKeepTheBlock, ConversionsWriteTheBlock, ReleasesWriteTheBlock, DeathsClearTheMark, RecoveriesClearTheMark, LeavesOthers, DeathLeavesOthers}
+use Rattle.lock_db.specs.Laws.{BlockStays, BlockIs, somebody, RequestsKeepTheBlock, TriesKeepTheBlock, ConversionsWriteTheBlock, ReleasesWriteTheBlock, DeathsClearTheMark, RecoveriesWriteTheBlock, LeavesOthers, DeathLeavesOthers}
 use Rattle.lock_db.proofs.Lists.{and-left, and-right, or-false_left, or-false_right, list_all-weaker, find-absent, find-passes, list_all-find}
 use Rattle.lock_db.proofs.Names.{is_same-same, is_after-not_same}
 use Rattle.lock_db.proofs.Heads.{settled-same}
@@ -46,14 +46,14 @@ unfolding released
 released-at name owner value t =
     placed-at name (released_of owner value (resource_at name t)) t (written-name _ value _ ∙ resource_at-named name t)
 
-pub recovered-at : (name : LockName) (value : List ℕ) (t : List Resource) → is_used (resource_at name t) ≡ true → resource_at name (recovered name value t) ≡ recovered_of value (resource_at name t)
+pub recovered-at : (name : LockName) (value : List ℕ) (valid : Bool) (t : List Resource) → is_used (resource_at name t) ≡ true → resource_at name (recovered name value valid t) ≡ recovered_of value valid (resource_at name t)
 unfolding recovered
-recovered-at name value t u =
+recovered-at name value valid t u =
     let r : Resource = resource_at name t in
-    placed-at name (recovered_of value r) t (resource_at-named name t) ∙ vacated-used (recovered_of value r) u
+    placed-at name (recovered_of value valid r) t (resource_at-named name t) ∙ vacated-used (recovered_of value valid r) u
 
-pub recoveries-clear : RecoveriesClearTheMark
-recoveries-clear name value t u = rw (recovered-at name value t u) (record { bytes_are = refl; mark_is = refl }, refl)
+pub recoveries-write : RecoveriesWriteTheBlock
+recoveries-write name value valid t u = rw (recovered-at name value valid t u) (record { bytes_are = refl; mark_is = refl }, refl)
 
 pub requests-keep : RequestsKeepTheBlock
 unfolding tried
@@ -226,9 +226,9 @@ try_converted-leaves name owner mode t =
     (elim (converts_now name owner mode t) as (λ b. LeavesOthers name t (if b then placed (regranted owner mode (resource_at name t)) t else t))
     [ true ↦ placed-leaves name (regranted owner mode (resource_at name t)) t (resource_at-named name t) | false ↦ λ other n. refl ])
 
-pub recovered-leaves : (name : LockName) (value : List ℕ) (t : List Resource) → LeavesOthers name t (recovered name value t)
+pub recovered-leaves : (name : LockName) (value : List ℕ) (valid : Bool) (t : List Resource) → LeavesOthers name t (recovered name value valid t)
 unfolding recovered
-recovered-leaves name value t = placed-leaves name (recovered_of value (resource_at name t)) t (resource_at-named name t)
+recovered-leaves name value valid t = placed-leaves name (recovered_of value valid (resource_at name t)) t (resource_at-named name t)
 
 pub released-leaves : (name : LockName) (owner : Owner) (value : List ℕ) (t : List Resource) → LeavesOthers name t (released name owner value t)
 unfolding released

@@ -147,12 +147,12 @@ released-here name t i owner value d o a =
     let s = IsAt-stands name t i o a in
     rw (← resource_at-here name t i d o a) (sym (s.instead (released_of owner value r) (written-name _ value _ ∙ resource_at-name name t i o a)))
 
-pub recovered-here : (name : LockName) (t : List Resource) (i : ℕ) (value : List ℕ) (d : Resource) → is_ordered t ≡ true → IsAt name t i → is_used (resource_at name t) ≡ true
-    → set t i (recovered_of value (get_or t i d)) ≡ recovered name value t
+pub recovered-here : (name : LockName) (t : List Resource) (i : ℕ) (value : List ℕ) (valid : Bool) (d : Resource) → is_ordered t ≡ true → IsAt name t i → is_used (resource_at name t) ≡ true
+    → set t i (recovered_of value valid (get_or t i d)) ≡ recovered name value valid t
 unfolding recovered
-recovered-here name t i value d o a u =
+recovered-here name t i value valid d o a u =
     let r : Resource = resource_at name t in
-    rw (← resource_at-here name t i d o a) (placed-set name t i (recovered_of value r) o a (resource_at-name name t i o a) u)
+    rw (← resource_at-here name t i d o a) (placed-set name t i (recovered_of value valid r) o a (resource_at-name name t i o a) u)
 
 -- a resource that somebody asks for stays in its place
 pub vacated-used : (t : List Resource) (i : ℕ) (d x : Resource) → i < length t → x ≡ get_or t i x → is_used x ≡ true → t ≡ take i t ++ (kept (get_or t i d) ++ drop (i + 1) t)

@@ -203,9 +203,9 @@ pub IsTable-released : (name : LockName) (owner : Owner) (value : List ℕ) (t :
 unfolding released
 IsTable-released name owner value t s = IsTable-placed (released_of owner value (resource_at name t)) t s (IsSettled-released owner value (resource_at name t) (IsSettled-at name t s))
 
-pub IsTable-recovered : (name : LockName) (value : List ℕ) (t : List Resource) → IsTable t → IsTable (recovered name value t)
+pub IsTable-recovered : (name : LockName) (value : List ℕ) (valid : Bool) (t : List Resource) → IsTable t → IsTable (recovered name value valid t)
 unfolding recovered
-IsTable-recovered name value t s = IsTable-placed (recovered_of value (resource_at name t)) t s (IsSettled-at name t s)
+IsTable-recovered name value valid t s = IsTable-placed (recovered_of value valid (resource_at name t)) t s (IsSettled-at name t s)
 
 pub IsTable-converted : (name : LockName) (owner : Owner) (mode : Mode) (value : List ℕ) (t : List Resource) → IsTable t → IsSome (lock_of owner (resource_at name t).askers)
     → (lock_of owner (resource_at name t).askers ≡ Some PR → mode ≡ CW → ⊥) → IsTable (converted name owner mode value t)

@@ -85,12 +85,12 @@ DeathsClearTheMark =
     (BlockIs (resource_at name t).value ((resource_at name t).valid && not (list_any (is_writer_of node) (resource_at name t).askers)) (resource_at name (dropped node t)))
     (BlockIs (replicate 16 0) true (resource_at name (dropped node t)))
 
--- a recovery writes the block without its mark, and leaves the locks and requests
-abbrev pub RecoveriesClearTheMark : Type 0
-RecoveriesClearTheMark =
-    (name : LockName) (value : List ℕ) (t : List Resource) → IsTrue (somebody (resource_at name t).askers)
-    → BlockIs value false (resource_at name (recovered name value t))
-    × ((resource_at name (recovered name value t)).askers ≡ (resource_at name t).askers)
+-- a recovery writes the block and its mark, and leaves the locks and requests
+abbrev pub RecoveriesWriteTheBlock : Type 0
+RecoveriesWriteTheBlock =
+    (name : LockName) (value : List ℕ) (valid : Bool) (t : List Resource) → IsTrue (somebody (resource_at name t).askers)
+    → BlockIs value valid (resource_at name (recovered name value valid t))
+    × ((resource_at name (recovered name value valid t)).askers ≡ (resource_at name t).askers)
 
 -- a call on one name leaves the resource of every other name as it is
 abbrev pub LeavesOthers : LockName → List Resource → List Resource → Type 0

@@ -100,9 +100,9 @@ abbrev pub dropped_of : ℕ → Resource → Resource
 dropped_of node r =
     record r { askers = settled (without_node node r.askers); valid = r.valid && not (list_any (is_writer_of node) r.askers) }
 
--- a recovery: the value block has these bytes and is not valid; locks and requests stay
-abbrev pub recovered_of : List ℕ → Resource → Resource
-recovered_of value r = record r { value = value; valid = false }
+-- a recovery: the value block has these bytes and this mark; locks and requests stay
+abbrev pub recovered_of : List ℕ → Bool → Resource → Resource
+recovered_of value valid r = record r { value = value; valid = valid }
 
 -- the answer to a request or a conversion, by whether it was granted at once
 abbrev pub asked_answer : Bool → Asked

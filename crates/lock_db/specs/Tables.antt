@@ -64,8 +64,8 @@ unfoldable pub dropped : ℕ → List Resource → List Resource
 dropped node t = filter is_used (map (dropped_of node) t)
 
 -- after a recovery of the value block of a name
-unfoldable pub recovered : LockName → List ℕ → List Resource → List Resource
-recovered name value t = placed (recovered_of value (resource_at name t)) t
+unfoldable pub recovered : LockName → List ℕ → Bool → List Resource → List Resource
+recovered name value valid t = placed (recovered_of value valid (resource_at name t)) t
 
 -- what two askers hold goes together: the modes are compatible where both have a lock
 abbrev pub go_together : Option Mode → Option Mode → Bool

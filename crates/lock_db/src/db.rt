@@ -1,3 +1,5 @@
+//! The lock table and its calls.
+
 ghost use Rattle.std.specs.Prelude.{◌≡◌, ◌≢◌, IfOk, OnOk, OnErr, IsSome, IfSome, IsTrue, false, None, Some, Ok, []};
 ghost use Rattle.lock_db.specs.Queues.{is_upward, standing_of, lock_of, mode_of, queues, holds_up};
 ghost use Rattle.lock_db.specs.Resources.{is_used, goes_at_once, asked_answer, tried_answer};
@@ -126,12 +128,12 @@ impl LockDb {
     }
 
     /// After a death of the lock's master: the value block of a name at which somebody has a lock or a request gets
-    /// these bytes, and is not valid until a holder in PW or EX writes it. It takes no memory.
-    pub fn recover(&mut self, name: LockName, value: [u8; 16])
+    /// these bytes and this mark. One that is not valid is so until a holder in PW or EX writes it. It takes no memory.
+    pub fn recover(&mut self, name: LockName, value: [u8; 16], valid: bool)
         requires { IsTrue (is_used (resource_at name self.old)) }
-        ensures { self.new ≡ recovered name value self.old }
+        ensures { self.new ≡ recovered name value valid self.old }
     {
-        table::recover(&mut self.resources, name, value);
+        table::recover(&mut self.resources, name, value, valid);
     }
 
     /// The same table once more. `NoMemory` comes only where memory is refused.

@@ -1,7 +1,7 @@
 //! The rules of the lock manager, proved of every table: each contract here is a theorem about the definitions that the
 //! calls' contracts cite, and no body does anything.
 
-ghost use Rattle.std.specs.Prelude.{◌≡◌, List, ℕ, Some, IsTrue};
+ghost use Rattle.std.specs.Prelude.{◌≡◌, List, ℕ, Some, IsTrue, Bool};
 ghost use Rattle.std.specs.List.{list_any};
 ghost use Rattle.plain_cat.specs.declared.mode.Mode.{Mode};
 ghost use Rattle.lock_db.specs.declared.name.LockName.{LockName};
@@ -10,7 +10,7 @@ ghost use Rattle.lock_db.specs.declared.askers.Asker.{Asker};
 ghost use Rattle.lock_db.specs.declared.resource.Resource.{Resource};
 ghost use Rattle.lock_db.specs.Queues.{is_converting, head_of, settled};
 ghost use Rattle.lock_db.specs.Tables.{IsTable, all_together, resource_at, asked, tried, converted, try_converted, released, recovered};
-ghost use Rattle.lock_db.specs.Laws.{GoTogether, StandsOnce, IsHeldUp, waiting_queue, GrantsServeTheWaiting, RequestsStand, ConversionsStand, ReleasesLeaveNothing, DeathsLeaveNothing, RequestsKeepTheBlock, TriesKeepTheBlock, ConversionsWriteTheBlock, ReleasesWriteTheBlock, DeathsClearTheMark, RecoveriesClearTheMark, LeavesOthers, DeathLeavesOthers};
+ghost use Rattle.lock_db.specs.Laws.{GoTogether, StandsOnce, IsHeldUp, waiting_queue, GrantsServeTheWaiting, RequestsStand, ConversionsStand, ReleasesLeaveNothing, DeathsLeaveNothing, RequestsKeepTheBlock, TriesKeepTheBlock, ConversionsWriteTheBlock, ReleasesWriteTheBlock, DeathsClearTheMark, RecoveriesWriteTheBlock, LeavesOthers, DeathLeavesOthers};
 
 /// Any two granted locks of different owners on one name are compatible.
 pub fn granted_locks_go_together()
@@ -87,9 +87,9 @@ pub fn deaths_clear_the_mark()
     ensures { DeathsClearTheMark }
 {}
 
-/// A recovery writes the bytes of a value block and leaves them not valid. It changes no lock and no request.
-pub fn recoveries_clear_the_mark()
-    ensures { RecoveriesClearTheMark }
+/// A recovery writes the bytes of a value block and its mark. It changes no lock and no request.
+pub fn recoveries_write_the_value_block()
+    ensures { RecoveriesWriteTheBlock }
 {}
 
 /// A call on one name touches no other name's locks, queues and value block.
@@ -104,8 +104,8 @@ pub fn calls_leave_other_names()
         → LeavesOthers name t (try_converted name owner mode t) }
     ensures release { (name : LockName) (owner : Owner) (value : List ℕ) (t : List Resource)
         → LeavesOthers name t (released name owner value t) }
-    ensures recover { (name : LockName) (value : List ℕ) (t : List Resource)
-        → LeavesOthers name t (recovered name value t) }
+    ensures recover { (name : LockName) (value : List ℕ) (valid : Bool) (t : List Resource)
+        → LeavesOthers name t (recovered name value valid t) }
 {}
 
 /// The death of a node touches no name at which it had no lock or request.

@@ -139,11 +139,11 @@ impl Resource {
         self.valid = self.valid && !died_writing;
     }
 
-    pub(crate) fn recover(&mut self, value: [u8; 16])
-        ensures { self.new ≡ recovered_of value self.old }
+    pub(crate) fn recover(&mut self, value: [u8; 16], valid: bool)
+        ensures { self.new ≡ recovered_of value valid self.old }
     {
         self.value = value;
-        self.valid = false;
+        self.valid = valid;
     }
 
     pub(crate) fn copy(&self, alloc: Global) -> Result<Resource, NoMemory>

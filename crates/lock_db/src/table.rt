@@ -187,16 +187,16 @@ pub(crate) fn release(table: &mut Vec<Resource>, name: LockName, owner: Owner, v
     vacate(table, i);
 }
 
-pub(crate) fn recover(table: &mut [Resource], name: LockName, value: [u8; 16])
+pub(crate) fn recover(table: &mut [Resource], name: LockName, value: [u8; 16], valid: bool)
     requires ordered { IsTrue (is_ordered table.old) }
     requires used { IsTrue (is_used (resource_at name table.old)) }
-    ensures { table.new ≡ recovered name value table.old }
+    ensures { table.new ≡ recovered name value valid table.old }
 {
     let Ok(i) = search(table, name) else {
         unreachable!()
     };
     let r = &mut table[i];
-    r.recover(value);
+    r.recover(value, valid);
 }
 
 /// The same resources once more.

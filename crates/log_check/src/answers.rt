@@ -1,3 +1,5 @@
+//! Which number a command takes, by the text of its answer.
+
 ghost use Rattle.std.specs.Prelude.{◌≡◌, ◌++◌, ◌∷◌, ℕ, List, Some};
 ghost use Rattle.plain_cat.specs.declared.reply.Reply.{Reply};
 ghost use Rattle.plain_rules.specs.Accounts.{Accounted};

@@ -1,3 +1,5 @@
+//! The command of a line: a node, and what it gives.
+
 ghost use Rattle.std.specs.Prelude.{◌≡◌, ◌&&◌, leb, IfOk, IfSome};
 ghost use Rattle.plain_cat.specs.declared.command.Cmd.{Cmd};
 ghost use Rattle.plain_cat.specs.InForm.{in_form, is_eighth};

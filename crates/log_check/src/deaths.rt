@@ -1,3 +1,5 @@
+//! The line of a death: what it tells, and how it is written.
+
 ghost use Rattle.std.specs.Prelude.{◌≡◌, ◌++◌, [], ◌∷◌, IfOk, OnOk, decimal};
 ghost use Rattle.plain_rules.specs.Checks.{is_quiet};
 ghost use Rattle.plain_texts.specs.Reports.{node_text, leaks_text};

@@ -1,3 +1,5 @@
+//! Lines of deaths and mendings, read.
+
 ghost use Rattle.std.specs.Prelude.{◌≡◌};
 ghost use Rattle.log_check.specs.Drafts.{named_stage, death_of, mending_of};
 

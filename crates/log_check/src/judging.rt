@@ -1,3 +1,5 @@
+//! A whole report, judged line by line up to its last line.
+
 ghost use Rattle.std.specs.Prelude.{◌≡◌, ◌≤◌, ◌<◌, ◌^◌, ◌+◌, ◌↔◌, drop, length, IfOk, IsTrue};
 ghost use Rattle.plain_rules.specs.Lookups.{free_clusters};
 ghost use Rattle.plain_rules.specs.Accounts.{Accounted};

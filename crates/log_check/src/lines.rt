@@ -1,3 +1,5 @@
+//! One line of a report: which entry it is about.
+
 ghost use Rattle.std.specs.Prelude.{◌≡◌, ◌+◌, IfOk};
 ghost use Rattle.log_check.specs.Lines.{body_of, words_of, reply_of, shown_of, IsDrafted};
 

@@ -1,3 +1,5 @@
+//! Numbers and nodes in the text of a report.
+
 ghost use Rattle.std.specs.Prelude.{◌≡◌, ◌≤◌, IfSome};
 ghost use Rattle.run_script.specs.Steps.{has_odd_start, number_of};
 ghost use Rattle.log_check.specs.Drafts.{node_of};

@@ -1,3 +1,5 @@
+//! Parts of a text: what stands behind so many bytes, or behind one of some bytes.
+
 ghost use Rattle.std.specs.Prelude.{◌≡◌, drop};
 ghost use Rattle.log_check.specs.Drafts.{behind_first};
 

@@ -1,3 +1,5 @@
+//! Whether two catalogues are the same, part by part.
+
 ghost use Rattle.std.specs.Prelude.{◌≡◌, ◌↔◌, IsTrue};
 
 use plain_cat::{Cat, DirEnt, File, Open, QuotaRow, Slot};

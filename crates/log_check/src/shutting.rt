@@ -1,3 +1,5 @@
+//! A catalogue once nothing is open any more.
+
 ghost use Rattle.std.specs.Prelude.{◌≡◌, IfOk, map, None, Option};
 ghost use Rattle.plain_cat.specs.declared.cat.Open.{Open};
 ghost use Rattle.log_check.specs.Checks.{shut};

@@ -1,3 +1,5 @@
+//! How a check ended.
+
 ghost use Rattle.std.specs.Prelude.{◌≡◌};
 ghost use Rattle.log_check.specs.Codes.{status_code};
 

@@ -1,3 +1,5 @@
+//! One line, judged: an answer, a death or a mending, and the catalogue after it.
+
 ghost use Rattle.std.specs.Prelude.{◌≡◌, ◌<◌, ◌≤◌, ◌++◌, ◌↔◌, true, false, drop, length, Some, IfOk, IsTrue};
 ghost use Rattle.plain_cat.specs.InForm.{is_eighth};
 ghost use Rattle.plain_texts.specs.Reports.{line_text};

@@ -1,3 +1,5 @@
+//! The call of the judge: two images and a report, read whole and judged.
+
 ghost use Rattle.std.specs.Prelude.{◌≡◌, ◌≤◌, ◌⊎◌, [], IfOk, IfErr, IfSome, vec_len};
 ghost use Rattle.base_words.specs.Faults.{Rose};
 ghost use Rattle.plain_rules.specs.Accounts.{Accounted};

@@ -1,3 +1,5 @@
+//! The catalogues of the volumes before and after, between which a report is judged.
+
 ghost use Rattle.std.specs.Prelude.{◌≡◌, IfOk, IfErr, length};
 ghost use Rattle.blk_drive.specs.Images.{IsInside};
 ghost use Rattle.plain_rules.specs.Accounts.{Accounted};

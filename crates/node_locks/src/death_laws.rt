@@ -1,3 +1,5 @@
+//! Laws of a death: what it leaves of the lock table and of its value blocks.
+
 ghost use Rattle.std.specs.Prelude.{◌≡◌, ◌≢◌, ◌≤◌, ℕ, List, Some, None};
 ghost use Rattle.plain_cat.specs.declared.mode.Mode.{Mode};
 ghost use Rattle.lock_db.specs.declared.name.LockName.{LockName};

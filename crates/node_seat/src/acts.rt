@@ -1,3 +1,5 @@
+//! A world whose nodes make events, as threads see it.
+
 ghost use Rattle.std.specs.Prelude.{◌≡◌, ◌≤◌, ℕ, List, Option, None, OnOk, OnErr, length};
 ghost use Rattle.base_words.specs.Fields.{Block};
 ghost use Rattle.core_state.specs.Worlds.{Plain, IsOfWorld};

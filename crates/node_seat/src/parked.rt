@@ -1,3 +1,5 @@
+//! A world between two events, with the mark that stops all threads after a fault.
+
 ghost use Rattle.std.specs.Prelude.{◌≡◌, ◌≤◌, ◌<◌, Some, None, Err, OnOk, IfSome};
 ghost use Rattle.core_state.specs.Deaths.{after_step};
 ghost use Rattle.node_seat.specs.declared.views.Start.{Start};

@@ -30,7 +30,7 @@ use Rattle.op_law.proofs.Counting.{number_brief, freeing_few}
 use Rattle.op_law.proofs.Telling.{number_is}
 use Rattle.vol_spell.proofs.HeadSlots.{reads_fields}
 use Rattle.op_steps.proofs.Uses.{used_reads}
-use Rattle.op_freeing.proofs.Looks.{chain_brief}
+use Rattle.op_steps.proofs.Looks.{chain_brief}
 use Rattle.op_access.specs.Seeing.{file_goes}
 use Rattle.op_access.proofs.Opens.{known_open}
 

@@ -51,10 +51,10 @@ use Rattle.vol_spell.proofs.HeadSlots.{file_told_at}
 use Rattle.op_steps.specs.Chained.{Chain, StandsOn}
 use Rattle.op_steps.specs.Files.{file_in}
 use Rattle.vol_spell.specs.Files.{IsFileThere, blocks_told}
-use Rattle.op_freeing.specs.BitmapWrites.{storage_places}
-use Rattle.op_freeing.proofs.Endings.{held_keeps_out}
-use Rattle.op_freeing.specs.GoneWrites.{space_at, gone_writes, HaveLocks, gone}
-use Rattle.op_freeing.proofs.GoneSteps.{gone_steps, gone_guards, gone_leaves, gone_fills, gone_leaves_few, gone_ends}
+use Rattle.op_steps.specs.BitmapWrites.{storage_places}
+use Rattle.op_steps.proofs.Endings.{held_keeps_out}
+use Rattle.op_steps.specs.FreeingGoneWrites.{space_at, gone_writes, HaveLocks, gone}
+use Rattle.op_steps.proofs.GoneSteps.{gone_steps, gone_guards, gone_leaves, gone_fills, gone_leaves_few, gone_ends}
 use Rattle.op_access.proofs.Opens.{HasOpen, alone_is}
 use Rattle.op_access.proofs.CloseOutcomes.{shut, stays_answer, kept_answer, gone_answer, stands_freed, stands_gone}
 use Rattle.op_access.proofs.CloseWalks.{take_none}

@@ -35,7 +35,7 @@ use Rattle.op_law.specs.Rows.{is_number, look_all, answers, refuses}
 use Rattle.op_law.proofs.Asking.{EveryEnd, IsShapedBy}
 use Rattle.op_law.proofs.Ends.{EndsBy, LeavesNothing, nothing_given}
 use Rattle.op_law.proofs.Links.{held_with, links_held_so}
-use Rattle.op_freeing.proofs.GoneSteps.{gone_ends}
+use Rattle.op_steps.proofs.GoneSteps.{gone_ends}
 use Rattle.op_access.specs.Seeing.{file_goes}
 
 pub take_none : (ws : List PlanWrite) → take 0 ws ≡ []

@@ -48,7 +48,7 @@ use Rattle.op_law.proofs.Ordering.{file_level}
 use Rattle.op_law.proofs.Through.{header_obeys}
 use Rattle.op_law.proofs.Walking.{ObeysBy, kept}
 use Rattle.op_steps.specs.Files.{file_in}
-use Rattle.op_freeing.proofs.Looks.{chain_locks, last, last_q, last_v, last_locks, space_obeys}
+use Rattle.op_steps.proofs.Looks.{chain_locks, last, last_q, last_v, last_locks, space_obeys}
 use Rattle.op_steps.proofs.Uses.{used_reads, used_is, not_used}
 use Rattle.op_access.specs.Kinds.{IsClose, IsAccess}
 use Rattle.op_access.specs.Seeing.{file_goes}

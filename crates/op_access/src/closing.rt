@@ -16,18 +16,19 @@ ghost use Rattle.op_law.specs.Channels.{close_plan, close_in, close_events};
 ghost use Rattle.op_law.specs.Fits.{FitsSeen};
 ghost use Rattle.op_steps.specs.Chains.{AreHeaders};
 ghost use Rattle.op_steps.specs.Seeing.{file_seen, IsReadable};
-ghost use Rattle.op_freeing.specs.Looking.{space_seen, IsWhole};
-ghost use Rattle.op_freeing.specs.Seeing.{HasNumbers};
+ghost use Rattle.op_steps.specs.Looking.{space_seen, IsWhole};
+ghost use Rattle.op_steps.specs.FreeingSeeing.{HasNumbers};
 ghost use Rattle.op_access.specs.Asks.{ask_by};
 ghost use Rattle.op_access.specs.Seeing.{IsFollowed, HeadIsFollowed, file_goes};
 
 use base_words::Block;
-use op_freeing::{Space, SpaceSeen, all_clusters, push_gone, space_seen};
 use op_law::{
     Ask, Chan, Looked, Need, NoMemory, Plan, Rest, Seen, Writes, answered, header_seen, is_number,
     refused,
 };
-use op_steps::{Chained, FileSeen, chain_seen, file_used};
+use op_steps::{
+    Chained, FileSeen, Space, SpaceSeen, all_clusters, chain_seen, file_used, push_gone, space_seen,
+};
 use plain_cat::{Clusters, Mode, Refusal, Reply};
 use std::alloc::Global;
 use vol_parts::Geometry;

@@ -1,3 +1,5 @@
+//! OPEN and CLOSE under way.
+
 ghost use Rattle.op_access.specs.Kinds.{IsAccess};
 
 use crate::closing::close_next;

@@ -14,7 +14,7 @@ use Rattle.op_law.specs.Moving.{SeenDir, through_names}
 use Rattle.op_law.specs.Entering.{NewEntry, numbered, made_of, making_events, create_in, create_events, mkdir_in, mkdir_events}
 use Rattle.op_law.specs.Behind.{goes_on_by, HasFirst}
 use Rattle.plain_rules.specs.Answers.{dir_name}
-use Rattle.op_create.specs.declared.slots.Place.{Place}
+use Rattle.op_create.specs.declared.places.Place.{Place}
 use Rattle.op_create.specs.Given.{through_place, behind_place}
 
 -- the plan by the quota blocks, the clusters, the number and its slot

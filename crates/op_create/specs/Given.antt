@@ -19,8 +19,8 @@ use Rattle.op_law.specs.Behind.{goes_on_by, blocks_alone}
 use Rattle.op_law.specs.declared.seeing.Rest.{Rest}
 use Rattle.op_create.specs.declared.numbers.Given.{Given}
 use Rattle.op_create.specs.declared.numbers.Given.TheVariants as given
-use Rattle.op_create.specs.declared.slots.Place.{Place}
-use Rattle.op_create.specs.declared.slots.Place.TheVariants as place
+use Rattle.op_create.specs.declared.places.Place.{Place}
+use Rattle.op_create.specs.declared.places.Place.TheVariants as place
 
 -- behind clusters and a number
 abbrev pub behind_number : (List ℕ → ℕ → Events) → Rest → Space → Given → Need

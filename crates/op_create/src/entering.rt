@@ -17,7 +17,7 @@ ghost use Rattle.op_create.specs.Files.{entry_made, IsSound, IsNewIn};
 
 use crate::files::{NewFile, new_dir, new_file, numbered};
 use crate::judging::{create_refusal, mkdir_refusal};
-use crate::slots::{Place, place_seen};
+use crate::places::{Place, place_seen};
 use crate::writing::{entry_for, making_writes};
 use base_words::Block;
 use lock_db::LockName;

@@ -20,7 +20,7 @@ mod judging;
 pub mod laws;
 mod numbers;
 mod operation;
-mod slots;
+mod places;
 mod writing;
 
 pub use numbers::{Given, number_given};

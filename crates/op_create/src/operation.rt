@@ -1,3 +1,5 @@
+//! CREATE and MKDIR under way.
+
 ghost use Rattle.op_create.specs.Kinds.{IsMake};
 
 use crate::entering::{create_next, mkdir_next};

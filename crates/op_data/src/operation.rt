@@ -1,3 +1,5 @@
+//! READ and WRITE under way.
+
 ghost use Rattle.op_data.specs.Kinds.{MovesData};
 
 use crate::reading::read_next;

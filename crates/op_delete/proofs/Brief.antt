@@ -42,7 +42,7 @@ use Rattle.op_law.proofs.Heads.{header_is, listed_inside}
 use Rattle.op_law.proofs.Telling.{number_is}
 use Rattle.op_law.proofs.Counting.{few_places, all_brief, number_brief, directory_brief, removal_few, freeing_few}
 use Rattle.op_steps.proofs.Uses.{used_reads}
-use Rattle.op_freeing.proofs.Looks.{space_brief}
+use Rattle.op_steps.proofs.Looks.{space_brief}
 use Rattle.op_delete.proofs.Walks.{behind, events_are}
 use Rattle.op_delete.proofs.Behind.{dir_lone}
 

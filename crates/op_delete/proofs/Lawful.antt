@@ -68,8 +68,8 @@ use Rattle.op_law.proofs.Asking.{IsDoneBy, asks_lawful}
 use Rattle.op_steps.specs.EntryWrites.{dir_in}
 use Rattle.op_steps.proofs.Chaining.{live_at}
 use Rattle.op_steps.specs.Files.{file_in}
-use Rattle.op_freeing.specs.GoneWrites.{HaveLocks, space_at}
-use Rattle.op_freeing.proofs.Looks.{chain_locks, last, last_q, last_v, last_locks, space_obeys}
+use Rattle.op_steps.specs.FreeingGoneWrites.{HaveLocks, space_at}
+use Rattle.op_steps.proofs.Looks.{chain_locks, last, last_q, last_v, last_locks, space_obeys}
 use Rattle.op_delete.specs.Kinds.{IsDelete}
 use Rattle.op_delete.proofs.Slots.{first_writes}
 use Rattle.op_delete.proofs.Outcomes.{refuses_none, refuses_plain, refuses_missing, refuses_kept, refuses_full}

@@ -71,14 +71,14 @@ use Rattle.op_steps.proofs.RemovalSteps.{removal_guards, removal_no_header, remo
 use Rattle.op_steps.specs.Files.{file_in}
 use Rattle.op_steps.specs.MarkWrites.{marked_write}
 use Rattle.op_steps.proofs.HeadSteps.{head_guards, head_leaves}
-use Rattle.op_freeing.specs.BitmapWrites.{storage_places}
-use Rattle.op_freeing.specs.GoneWrites.{HaveLocks, space_at, gone_writes}
-use Rattle.op_freeing.specs.GoneWrites as freeing
-use Rattle.op_freeing.specs.Standing.{AreUnder, AreBeside}
-use Rattle.op_freeing.proofs.Named.{under_locks, under_joined}
-use Rattle.op_freeing.proofs.Endings.{stage_both, held_keeps_out}
-use Rattle.op_freeing.proofs.GoneSteps.{gone_steps, gone_guards, gone_leaves, gone_fills, gone_leaves_few}
-use Rattle.op_freeing.proofs.GoneStands.{rest_stands, gone_stands, gone_stage}
+use Rattle.op_steps.specs.BitmapWrites.{storage_places}
+use Rattle.op_steps.specs.FreeingGoneWrites.{HaveLocks, space_at, gone_writes}
+use Rattle.op_steps.specs.FreeingGoneWrites as freeing
+use Rattle.op_steps.specs.Standing.{AreUnder, AreBeside}
+use Rattle.op_steps.proofs.Named.{under_locks, under_joined}
+use Rattle.op_steps.proofs.Endings.{stage_both, held_keeps_out}
+use Rattle.op_steps.proofs.GoneSteps.{gone_steps, gone_guards, gone_leaves, gone_fills, gone_leaves_few}
+use Rattle.op_steps.proofs.GoneStands.{rest_stands, gone_stands, gone_stage}
 use Rattle.op_delete.proofs.Outcomes.{less, unlinked, without_file, gone, removes_answer, stands_removed, marks_answer, deletes_answer, stands_unlinked, stands_freed, stands_gone}
 use Rattle.op_delete.proofs.Chains.{can, lone_steps, IsUnlinked, unnaming_steps}
 use Rattle.op_delete.proofs.Chains as chain

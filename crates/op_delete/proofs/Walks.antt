@@ -45,7 +45,7 @@ use Rattle.op_law.proofs.Asking.{EveryEnd, IsShapedBy}
 use Rattle.op_law.proofs.Ends.{EndsBy, outs_behind, nothing_given}
 use Rattle.op_law.proofs.Links.{held_with, links_held_so}
 use Rattle.op_law.proofs.RemovalEnds.{LeaveNothing, both_leave_nothing, nothing_left, removal_leaves_nothing}
-use Rattle.op_freeing.proofs.GoneSteps.{gone_ends}
+use Rattle.op_steps.proofs.GoneSteps.{gone_ends}
 use Rattle.op_delete.proofs.Slots.{first_writes}
 
 -- ---- what its plans leave outside

@@ -18,8 +18,8 @@ ghost use Rattle.op_law.specs.Freeing.{all_clusters, through_space};
 ghost use Rattle.op_law.specs.Removing.{delete_plan, delete_in, delete_events};
 ghost use Rattle.op_steps.specs.Names.{dir_seen, IsReadable as IsDirReadable};
 ghost use Rattle.op_steps.specs.Seeing.{file_seen, IsReadable};
-ghost use Rattle.op_freeing.specs.Looking.{space_seen, IsWhole};
-ghost use Rattle.op_freeing.specs.Seeing.{HasNumbers};
+ghost use Rattle.op_steps.specs.Looking.{space_seen, IsWhole};
+ghost use Rattle.op_steps.specs.FreeingSeeing.{HasNumbers};
 ghost use Rattle.op_delete.specs.Deleting.{plan_by, whole_goes, file_goes, CanGo};
 ghost use Rattle.op_delete.specs.Looking.{IsWholeDir};
 ghost use Rattle.op_delete.specs.Naming.{LockIsOf, IsLone};
@@ -29,9 +29,11 @@ use crate::looking::{Empty, empty_seen};
 use crate::naming::{Told, file_told};
 use crate::seeing::{Named, named_seen};
 use crate::writing::push_unnaming;
-use op_freeing::{Space, SpaceSeen, all_clusters, push_gone, space_seen};
 use op_law::{Ask, Need, NoMemory, Plan, Rest, Seen, Writes, entry_seen, refused};
-use op_steps::{Chained, DirSeen, FileSeen, Names, chain_seen, names_seen, push_removal};
+use op_steps::{
+    Chained, DirSeen, FileSeen, Names, Space, SpaceSeen, all_clusters, chain_seen, names_seen,
+    push_gone, push_removal, space_seen,
+};
 use plain_cat::{Clusters, DirEnt, Fid, Mode, Name, Refusal, Reply, Stage};
 use std::alloc::Global;
 use vol_parts::Geometry;

@@ -1,3 +1,5 @@
+//! DELETE under way.
+
 ghost use Rattle.op_delete.specs.Kinds.{IsDelete};
 
 use crate::deleting::delete_next;

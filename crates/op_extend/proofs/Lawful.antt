@@ -60,7 +60,7 @@ use Rattle.op_extend.proofs.Walks.{WasGiven, plan, extend_obeys}
 use Rattle.op_extend.proofs.Wanting.{WantsBy, extend_fine}
 use Rattle.op_extend.proofs.Brief.{extend_brief}
 use Rattle.op_extend.proofs.Fine.{lawful_by_seen}
-use Rattle.op_freeing.proofs.Looks.{held_last}
+use Rattle.op_steps.proofs.Looks.{held_last}
 
 -- the usages are near what the files cost
 usages : (node : ℕ) (file : Fid) (blocks : ℕ) (seen : Seen) (c : Cat) → knows node (cmd.Extend file blocks) seen c ≡ true → list_all (is_charged c) c.quota ≡ true

@@ -16,7 +16,7 @@ use Rattle.op_law.specs.Headers.{locks_behind, numbers_of}
 use Rattle.op_law.specs.Laws.{held_in}
 use Rattle.op_law.proofs.Links.{held_with}
 use Rattle.op_steps.specs.Files.{file_in}
-use Rattle.op_freeing.proofs.Looks.{chain_locks, held_last}
+use Rattle.op_steps.proofs.Looks.{chain_locks, held_last}
 
 -- those of the file's headers, Q besides, and the lock of a number besides
 abbrev pub head_locks : Geometry → List Block → ℕ → List (LockName × Mode)

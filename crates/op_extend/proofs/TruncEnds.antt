@@ -18,11 +18,11 @@ use Rattle.op_law.specs.Sizes.{cut_last_writes, cut_clusters, cut_numbers, heade
 use Rattle.op_law.specs.Quotas.{owner_write, row_discharged}
 use Rattle.op_law.specs.Writing.{empty_handed}
 use Rattle.op_law.proofs.Counting.{owner_few, tail_few}
-use Rattle.op_freeing.specs.BitmapWrites.{brought}
-use Rattle.op_freeing.proofs.Endings.{rising_clusters, outs_both}
-use Rattle.op_freeing.proofs.HeaderSlots.{slots_outs}
-use Rattle.op_freeing.proofs.Tails.{tail_ends}
-use Rattle.op_freeing.proofs.Turns.{brought_is}
+use Rattle.op_steps.specs.BitmapWrites.{brought}
+use Rattle.op_steps.proofs.Endings.{rising_clusters, outs_both}
+use Rattle.op_steps.proofs.HeaderSlots.{slots_outs}
+use Rattle.op_steps.proofs.Tails.{tail_ends}
+use Rattle.op_steps.proofs.Turns.{brought_is}
 
 module _ (g : Geometry) (f : SeenFile) (k : ℕ) where
   abbrev qs : List ℕ

@@ -64,9 +64,9 @@ use Rattle.op_law.proofs.Through.{file_told, header_obeys, quota_obeys, all_obey
 use Rattle.op_law.proofs.Walking.{ObeysBy}
 use Rattle.op_steps.proofs.Chaining.{live_at}
 use Rattle.op_steps.specs.Files.{file_in}
-use Rattle.op_freeing.specs.BitmapWrites.{index_seen, storage_seen}
-use Rattle.op_freeing.proofs.Filters.{mapped}
-use Rattle.op_freeing.proofs.Named.{guarded, for_part}
+use Rattle.op_steps.specs.BitmapWrites.{index_seen, storage_seen}
+use Rattle.op_steps.proofs.Filters.{mapped}
+use Rattle.op_steps.proofs.Named.{guarded, for_part}
 use Rattle.op_extend.specs.Kinds.{IsTrunc}
 use Rattle.op_extend.proofs.Growing.{IsLive, reads_live, kept_out}
 use Rattle.op_extend.proofs.Locks.{head_locks, quota_locks, bitmap_locks, quota_held}

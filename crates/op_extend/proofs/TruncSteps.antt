@@ -53,14 +53,14 @@ use Rattle.op_steps.specs.Files.{file_in}
 use Rattle.op_steps.specs.GoneWrites.{cut_things}
 use Rattle.op_steps.specs.SlotWrites.{AreHeadsWritten, AreFreed}
 use Rattle.op_steps.proofs.Chaining.{live_at}
-use Rattle.op_freeing.specs.BitmapWrites.{brought, index_seen, storage_seen}
-use Rattle.op_freeing.specs.Standing.{AreUnder, AreBeside}
-use Rattle.op_freeing.specs.TailWrites.{tail_writes}
-use Rattle.op_freeing.proofs.Endings.{held_keeps_out, stage_both}
-use Rattle.op_freeing.proofs.Filters.{mapped}
-use Rattle.op_freeing.proofs.HeaderSlots.{numbers_there, numbers_few, no_q, no_v}
-use Rattle.op_freeing.proofs.Tails.{tail_steps, tail_stands, tail_guards, tail_no_header, tail_stage, tail_leaves_few}
-use Rattle.op_freeing.proofs.Turns.{brought_is}
+use Rattle.op_steps.specs.BitmapWrites.{brought, index_seen, storage_seen}
+use Rattle.op_steps.specs.Standing.{AreUnder, AreBeside}
+use Rattle.op_steps.specs.TailWrites.{tail_writes}
+use Rattle.op_steps.proofs.Endings.{held_keeps_out, stage_both}
+use Rattle.op_steps.proofs.Filters.{mapped}
+use Rattle.op_steps.proofs.HeaderSlots.{numbers_there, numbers_few, no_q, no_v}
+use Rattle.op_steps.proofs.Tails.{tail_steps, tail_stands, tail_guards, tail_no_header, tail_stage, tail_leaves_few}
+use Rattle.op_steps.proofs.Turns.{brought_is}
 use Rattle.op_steps.proofs.CutSteps.{cut_steps}
 use Rattle.op_steps.proofs.HeaderWrites.{cut_guards, cut_leaves, cut_fills, cut_leaves_few, cut_ends}
 use Rattle.op_extend.proofs.Growing.{IsLive, reads_live, kept_out}

@@ -22,12 +22,13 @@ use crate::given::{Given, space_given};
 use crate::runs::extra;
 use crate::writing::growing_writes;
 use base_words::Block;
-use op_freeing::slot_seq;
 use op_law::{
     FILE_MOST, HEADER_MOST, Listed, Looked, Need, NoMemory, Plan, Rest, Seen, header_seen,
     is_number, live_in, refused,
 };
-use op_steps::{Chained, FileSeen, chain_seen, clusters_for, quota_seen, rows_seen, slot_seen};
+use op_steps::{
+    Chained, FileSeen, chain_seen, clusters_for, quota_seen, rows_seen, slot_seen, slot_seq,
+};
 use plain_cat::{Fid, Mode, QuotaRow, Refusal, Reply, Uic};
 use plain_rules::row_of;
 use std::alloc::Global;

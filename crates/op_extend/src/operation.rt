@@ -1,3 +1,5 @@
+//! EXTEND and TRUNC under way.
+
 ghost use Rattle.op_extend.specs.Kinds.{ChangesSize};
 
 use crate::extending::extend_next;

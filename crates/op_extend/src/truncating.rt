@@ -19,12 +19,11 @@ ghost use Rattle.op_extend.specs.Cutting.{IsGone, IsLooked, IsIndexFor, space_se
 use crate::cutting::{Gone, Index, Space, cutting_writes, gone_seen};
 use base_words::Block;
 use lock_db::LockName;
-use op_freeing::storage_seen;
 use op_law::{
     Granted, Listed, Looked, Need, NoMemory, Plan, Rest, Seen, answered, block_seen, header_seen,
     is_number, live_in, lock_seen, refused,
 };
-use op_steps::{Chained, FileSeen, chain_seen, clusters_for, quota_seen};
+use op_steps::{Chained, FileSeen, chain_seen, clusters_for, quota_seen, storage_seen};
 use plain_cat::{Fid, Mode, Refusal, Reply};
 use std::alloc::Global;
 use vol_parts::Geometry;

@@ -14,27 +14,27 @@
 //! The operations and the core stand on it.
 #![tactic(auto)]
 
+mod events;
 mod laws;
 mod limits;
 mod lists;
 mod need;
 mod numbers;
 mod operation;
-mod rows;
 mod seeing;
 mod seen;
 
+pub use events::{
+    answered, blocks_of, entries_read, entries_seen, entry_seen, is_number, live_in, place_in,
+    refused, version_seen,
+};
 pub use laws::{looks_reply, seen_goes_on};
 pub use limits::{FILE_MOST, HEADER_MOST};
-pub use lists::{KeptLocks, SeenBlocks, SeenLocks, Writes};
+pub use lists::{SeenBlocks, SeenLocks, Writes};
 pub use need::{Ask, Need, Plan, PlanWrite};
 pub use numbers::Numbers;
 pub use operation::Operation;
 pub use plain_cat::NoMemory;
-pub use rows::{
-    answered, blocks_of, entries_read, entries_seen, entry_seen, is_number, live_in, place_in,
-    refused, version_seen,
-};
 pub use seeing::{
     Granted, Listed, Listing, Looked, Rest, block_seen, blocks_seen, directory_seen,
     entries_looked, header_lbn, header_seen, lock_seen,

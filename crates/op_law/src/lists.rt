@@ -1,3 +1,5 @@
+//! The lists of a command under way: locks granted, blocks looked at, writes planned.
+
 ghost use Rattle.std.specs.Prelude.{◌≡◌, ◌+◌, ◌<◌, ◌≤◌, ◌++◌, [], ◌∷◌, not, length, filter, option_to_list, OnOk, OnErr, IsNone};
 ghost use Rattle.lock_db.specs.Names.{is_same};
 
@@ -67,68 +69,6 @@ impl SeenLocks {
     /// The locks, in order.
     pub fn items(&self) -> &[(LockName, Mode)]
         ensures { result.now ≡ self.now }
-    {
-        self.list.as_slice()
-    }
-}
-
-/// The locks that a node keeps, each with its mode, in order, with spare room: an answer moves the locks of its command here, and
-/// takes no memory.
-#[derive(Drop)]
-pub struct KeptLocks {
-    list: Vec<(LockName, Mode)>,
-}
-
-impl Model for KeptLocks {
-    ghost use Rattle.std.specs.Prelude.{◌-◌, vec_capacity, vec_len};
-    ghost use Rattle.plain_cat.specs.Spared.{Spared};
-    ghost use Rattle.plain_cat.specs.declared.mode.Mode.{Mode};
-    ghost use Rattle.lock_db.specs.declared.name.LockName.{LockName};
-
-    ghost Value = { Spared (LockName × Mode) };
-
-    ghost view = { λ l. record { items = l.list.items; room = vec_capacity l.list - vec_len l.list } };
-}
-
-impl KeptLocks {
-    /// No lock.
-    pub fn new(alloc: Global) -> Self
-        ensures { result.items ≡ [] }
-    {
-        KeptLocks {
-            list: Vec::new(alloc),
-        }
-    }
-
-    /// Takes memory for n more locks, so that `append` needs none. The locks stay.
-    pub fn make_room(&mut self, n: usize) -> Result<(), NoMemory>
-        ensures same { self.new.items ≡ self.old.items }
-        ensures ok { OnOk result (n ≤ self.new.room) }
-        ensures grows { self.old.room ≤ self.new.room }
-    {
-        self.list.reserve(n)
-    }
-
-    /// Adds a lock at the end, in the spare room. It takes no memory.
-    pub fn append(&mut self, item: (LockName, Mode))
-        requires { 0 < self.old.room }
-        ensures items { self.new.items ≡ self.old.items ++ item ∷ [] }
-        ensures room { self.new.room + 1 ≡ self.old.room }
-    {
-        self.list.push_reserved(item);
-    }
-
-    /// Removes the lock of this name, where it is there. The others stay, in order, its place is room, and no memory is taken.
-    pub fn remove(&mut self, name: LockName)
-        ensures items { self.new.items ≡ filter (λ l. not (is_same l.0 name)) self.old.items }
-        ensures room { self.new.room + length self.new.items ≡ self.old.room + length self.old.items }
-    {
-        self.list.retain(|l| is_other(l, name));
-    }
-
-    /// The locks, in order.
-    pub fn items(&self) -> &[(LockName, Mode)]
-        ensures { result.now ≡ self.now.items }
     {
         self.list.as_slice()
     }

@@ -1,3 +1,5 @@
+//! What a command needs next, and the plan that it ends with.
+
 use crate::lists::Writes;
 use crate::numbers::Numbers;
 use base_words::Block;

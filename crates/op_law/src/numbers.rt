@@ -1,3 +1,5 @@
+//! A list of file numbers.
+
 ghost use Rattle.std.specs.Prelude.{◌≡◌, ◌++◌, [], ◌∷◌, OnOk, OnErr};
 
 use plain_cat::NoMemory;

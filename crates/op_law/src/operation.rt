@@ -1,3 +1,5 @@
+//! The trait of a command under way.
+
 ghost use Rattle.std.specs.Prelude.{◌≡◌, IfOk};
 ghost use Rattle.plain_cat.specs.declared.command.Cmd.{Cmd};
 

@@ -10,8 +10,8 @@ ghost use Rattle.op_law.specs.Rows.{look_all, through_header, through_directory,
 ghost use Rattle.op_law.specs.Readable.{AreInside, HeadIsInside, BodyIsRead, HeadIsReadable, ListedRead, ListsRead};
 ghost use Rattle.op_law.specs.Behind.{behind_lock, behind_block, behind_all, behind_directory, FollowsBy, FollowsLock, FollowsBlock, FollowsAll, HasBlocks, HasAtMost, ListsFirst, IsHeadOf};
 
+use crate::events::{is_number, live_in, place_in, refused};
 use crate::need::Need;
-use crate::rows::{is_number, live_in, place_in, refused};
 use base_words::Block;
 use lock_db::LockName;
 use plain_cat::{Fid, Mode, Refusal};

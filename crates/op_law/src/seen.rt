@@ -1,3 +1,5 @@
+//! What a command has seen so far, and what a channel has open.
+
 ghost use Rattle.std.specs.Prelude.{◌≡◌};
 
 use crate::lists::{SeenBlocks, SeenLocks};

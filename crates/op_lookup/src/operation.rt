@@ -1,3 +1,5 @@
+//! LOOKUP, LIST and STAT under way.
+
 ghost use Rattle.op_lookup.specs.Kinds.{IsLook};
 
 use crate::looks::{list_next, lookup_next, stat_next};

@@ -1,3 +1,5 @@
+//! QUOTASET and QUOTASHOW under way.
+
 ghost use Rattle.op_quota.specs.Kinds.{IsQuota};
 
 use crate::setting::quota_set_next;

@@ -1,3 +1,5 @@
+//! RENAME under way.
+
 ghost use Rattle.op_rename.specs.Kinds.{IsRename};
 
 use crate::renaming::rename_next;

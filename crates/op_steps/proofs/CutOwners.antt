@@ -23,7 +23,7 @@ use Rattle.op_steps.specs.GoneWrites.{cut_things}
 use Rattle.op_steps.proofs.ChainFiles.{chain_once, chain_owned, chain_within}
 use Rattle.op_steps.proofs.ChainNumbers.{places_for, before_are, once_places, of_place, to_place, numbers_once}
 use Rattle.op_steps.proofs.FileNow.{IsNow, now_owned, seen_with, clusters_now}
-use Rattle.op_steps.proofs.Rising.{rising_has, has_rising, once_rising}
+use Rattle.op_steps.proofs.Ascending.{rising_has, has_rising, once_rising}
 use Rattle.op_steps.proofs.WholeFiles.{placed, slots_placed}
 
 -- The headers in the slots ks stay behind the first one, and those in the slots gs go; the first `kept` clusters stay.

@@ -46,7 +46,7 @@ use Rattle.op_steps.specs.SlotWrites.{AreHeadsWritten, AreFreed}
 use Rattle.op_steps.proofs.ChainFiles.{slot_on, slot_whole, slot_kept, chain_owned, chain_within, chain_file}
 use Rattle.op_steps.proofs.ChainNumbers.{places_for, before_are, once_places, to_place, numbers_once, numbers_owned, numbers_low, behind_has, behind_once, place_has}
 use Rattle.op_steps.proofs.HeadSteps.{head_steps}
-use Rattle.op_steps.proofs.Rising.{rising_has, has_rising, once_rising}
+use Rattle.op_steps.proofs.Ascending.{rising_has, has_rising, once_rising}
 use Rattle.op_steps.proofs.Sequences.{sequence_low}
 use Rattle.op_steps.proofs.SlotSteps.{AreStill, AreSpared, spare_writes, spare_steps, same_then}
 use Rattle.op_steps.proofs.WholeFiles.{begins, numbers_are, whole_clusters}

@@ -10,7 +10,7 @@ use Rattle.fx_dir.specs.declared.DirFault.{DirFault}
 use Rattle.fx_dir.specs.Directory.{directory}
 use Rattle.fx_dir.specs.Moves.{inserted, key}
 use Rattle.fx_dir.specs.Writing.{name_of, block_of, if_fits}
-use Rattle.fx_room.specs.Room.{is_none_left, has_room}
+use Rattle.fx_dir.specs.Room.{is_none_left, has_room}
 use Rattle.plain_cat.specs.declared.entries.DirEnt.{DirEnt}
 use Rattle.plain_rules.specs.Lookups.{highest, first_with, entry_of}
 use Rattle.plain_rules.specs.Directories.{is_nil, is_taken, fits, entry, nowhere, inserted as listed}

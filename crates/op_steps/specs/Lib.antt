@@ -1,14 +1,19 @@
+pub mod BitmapWrites
 pub mod BlockWrites
-pub mod Chains
 pub mod Chained
+pub mod Chains
 pub mod EntryWrites
 pub mod FileWrites
 pub mod Files
+pub mod FreeingGoneWrites
+pub mod FreeingSeeing
 pub mod Given
 pub mod GoneWrites
 pub mod GrownWrites
 pub mod HeadWrites
 pub mod Iter
+pub mod Looked
+pub mod Looking
 pub mod MarkWrites
 pub mod Names
 pub mod NewRows
@@ -16,3 +21,5 @@ pub mod RemovalWrites
 pub mod RowWrites
 pub mod Seeing
 pub mod SlotWrites
+pub mod Standing
+pub mod TailWrites

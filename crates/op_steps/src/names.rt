@@ -12,7 +12,7 @@ ghost use Rattle.op_law.specs.Behind.{FollowsBy, blocks_alone};
 ghost use Rattle.op_steps.specs.Names.{behind_names, FollowsNames, ShowsReadable, ShowsRead, IsDirectory, IsNumbered};
 
 use base_words::Block;
-use fx_room::has_room;
+use fx_dir::has_room;
 use lock_db::LockName;
 use op_law::{
     Listed, Looked, Need, Rest, blocks_seen, header_seen, is_number, live_in, place_in, refused,

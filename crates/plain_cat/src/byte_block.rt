@@ -1,3 +1,5 @@
+//! A block of bytes in memory of its own.
+
 ghost use Rattle.std.specs.Prelude.{◌≡◌, IfOk};
 
 use crate::NoMemory;

@@ -1,3 +1,5 @@
+//! The catalogue of a volume and what it consists of: files, slots, quota rows and open channels.
+
 ghost use Rattle.std.specs.Prelude.{◌≡◌, IfOk};
 
 use crate::NoMemory;

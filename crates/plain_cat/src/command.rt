@@ -1,3 +1,5 @@
+//! The commands of a node.
+
 ghost use Rattle.std.specs.Prelude.{◌≡◌, IfOk};
 
 use crate::NoMemory;

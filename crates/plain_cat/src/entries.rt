@@ -1,5 +1,7 @@
-ghost use Rattle.std.specs.Prelude.{◌≡◌, ◌++◌, [], ◌∷◌, OnOk, OnErr, IfOk, ◌≤◌, length};
-ghost use Rattle.std.specs.List.{insert};
+//! The entries of a directory.
+
+ghost use Rattle.std.specs.Prelude.{◌≡◌, ◌++◌, [], ◌∷◌, OnOk, OnErr, IfOk, Some, ◌<◌, ◌≤◌, length, slice_get};
+ghost use Rattle.std.specs.List.{insert, remove};
 
 use crate::NoMemory;
 use crate::ids::Fid;
@@ -94,5 +96,14 @@ impl DirEnts {
     {
         self.list.insert(at, item)?;
         Ok(())
+    }
+
+    /// Takes the entry at `at` out, which counts from 0; those behind it move down. It takes no memory.
+    pub fn remove(&mut self, at: usize) -> DirEnt
+        requires { at < length self.old }
+        ensures taken { slice_get self.old at ≡ Some result }
+        ensures left { self.new ≡ remove self.old at }
+    {
+        self.list.remove(at)
     }
 }

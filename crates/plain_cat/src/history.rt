@@ -1,3 +1,5 @@
+//! Histories: answers, deaths and mendings, in the order in which they came.
+
 ghost use Rattle.std.specs.Prelude.{◌≡◌, ◌+◌, ◌<◌, ◌≤◌, ◌++◌, [], ◌∷◌, OnOk, OnErr};
 
 use crate::NoMemory;

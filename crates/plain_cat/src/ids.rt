@@ -1,3 +1,5 @@
+//! The identifiers of files and of owners.
+
 /// The identifier of a file: its number, and the sequence that tells the files apart which have had this number
 /// (Files-11 ODS-2; the relative volume number is always 0 here).
 #[derive(Clone, Copy, Debug, PartialEq)]

@@ -1,3 +1,5 @@
+//! The lock modes, and which of them go together.
+
 ghost use Rattle.std.specs.Prelude.{◌≡◌};
 ghost use Rattle.plain_cat.specs.Modes.{compatible_modes};
 

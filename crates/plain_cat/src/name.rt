@@ -1,3 +1,5 @@
+//! Texts in bytes, as the names of entries.
+
 ghost use Rattle.std.specs.Prelude.{◌≡◌, ◌↔◌, ◌++◌, [], ◌∷◌, OnOk, OnErr, IfOk, IsTrue};
 ghost use Rattle.std.specs.Str.{bytes_eq};
 

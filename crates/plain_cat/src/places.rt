@@ -1,3 +1,5 @@
+//! Where the lines of each node stand in a script.
+
 ghost use Rattle.std.specs.Prelude.{◌≡◌, ◌==◌, ◌<◌, ◌++◌, ℕ, [], ◌∷◌, OnOk, OnErr, get_or, if◌then◌else◌, length, slice_get};
 
 use crate::NoMemory;

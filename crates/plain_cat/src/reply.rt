@@ -1,3 +1,5 @@
+//! Replies, and why a command is refused.
+
 ghost use Rattle.std.specs.Prelude.{◌≡◌, IfOk};
 
 use crate::NoMemory;

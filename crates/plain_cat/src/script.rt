@@ -1,3 +1,5 @@
+//! Scripts: the lines of all nodes, and where nodes are stopped.
+
 ghost use Rattle.std.specs.Prelude.{◌≡◌, ◌++◌, [], ◌∷◌, OnOk, OnErr, IfOk, option_copied, slice_get};
 ghost use Rattle.std.specs.Option.{option_map};
 ghost use Rattle.plain_cat.specs.OwnLines.{lines_of};

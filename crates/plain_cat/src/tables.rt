@@ -1,10 +1,13 @@
-ghost use Rattle.std.specs.Prelude.{◌≡◌, ◌<◌, ◌≤◌, ◌++◌, [], ◌∷◌, OnOk, OnErr, IfOk, length, slice_set, take};
+//! The lists that a catalogue consists of: slots, quota rows, channels, flags and blocks.
+
+ghost use Rattle.std.specs.Prelude.{◌≡◌, ◌<◌, ◌≤◌, ◌++◌, [], ◌∷◌, OnOk, OnErr, IfOk, Some, length, slice_get, slice_set, take};
 ghost use Rattle.std.specs.List.{insert};
 
 use crate::NoMemory;
 use crate::cat::{Open, QuotaRow, Slot};
 use std::alloc::Global;
 use std::marker::Model;
+use std::mem;
 
 /// The slots of all file numbers: number n stands at n - 1.
 #[derive(Drop)]
@@ -64,6 +67,16 @@ impl Files {
         ensures { self.new ≡ slice_set self.old at item }
     {
         self.list[at] = item;
+    }
+
+    /// Takes the slot at `at` out, which counts from 0. A free slot of sequence 0 stands there until another one is put
+    /// in its place. It takes no memory.
+    pub fn take(&mut self, at: usize) -> Slot
+        requires { at < length self.old }
+        ensures taken { slice_get self.old at ≡ Some result }
+        ensures left { self.new ≡ slice_set self.old at (Slot.Free 0) }
+    {
+        mem::replace(&mut self.list[at], Slot::Free(0))
     }
 }
 
@@ -318,6 +331,13 @@ impl Blocks {
         ensures { self.new ≡ slice_set self.old at item }
     {
         self.list[at] = item;
+    }
+
+    /// Drops the blocks behind the first n, or none where there are no more. The memory stays.
+    pub fn truncate(&mut self, n: usize)
+        ensures { self.new ≡ take n self.old }
+    {
+        self.list.truncate(n);
     }
 
     /// The first n blocks again, or all where there are no more.

@@ -1,3 +1,5 @@
+//! Laws of deaths: accounts stay in order, system files stay, channels close.
+
 ghost use Rattle.std.specs.Prelude.{◌≡◌, ◌≤◌, ◌<◌, ℕ, false, List, Option, Some, None};
 ghost use Rattle.plain_cat.specs.declared.command.Cmd.{Cmd};
 ghost use Rattle.plain_cat.specs.declared.reply.Reply.{Reply};

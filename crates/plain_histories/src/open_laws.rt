@@ -1,3 +1,5 @@
+//! Laws of open channels along a history.
+
 ghost use Rattle.std.specs.Prelude.{◌≡◌, ◌≤◌, ℕ, Bool, true, false, List, Option, Some, None, length, replicate};
 ghost use Rattle.std.specs.List.{list_all};
 ghost use Rattle.plain_cat.specs.InForm.{in_form, InForm};

@@ -104,7 +104,7 @@ new_names a x y k m f same dir at number e =
 abbrev Ready : Cat → ℕ → Fid → List ℕ → Cat → Type 0
 Ready a m fid ns x = SameFiles a x × (Names x fid ⊎ Has ns m)
 
-lost_named : (a b : Cat) (m : ℕ) (f : File) → with_lost a ≡ Some b → ((g : File) → file_at a 11 ≡ Some g → g.dir ≡ true) → file_at a m ≡ Some f
+pub lost_named : (a b : Cat) (m : ℕ) (f : File) → with_lost a ≡ Some b → ((g : File) → file_at a 11 ≡ Some g → g.dir ≡ true) → file_at a m ≡ Some f
     → Has (lost a false) m → Names b (record { num = m; seq = f.seq })
 lost_named a b m f h dir at has =
     let t = both_from a b h in

@@ -1,3 +1,5 @@
+//! Laws of mending: what it clears, and that a second one does nothing.
+
 ghost use Rattle.std.specs.Prelude.{◌≡◌, Some};
 ghost use Rattle.plain_cat.specs.declared.history.Mended.{Mended};
 ghost use Rattle.plain_cat.specs.declared.cat.Cat.{Cat};

@@ -1,3 +1,5 @@
+//! A law of free clusters: they are all that no file has and nothing leaked.
+
 ghost use Rattle.std.specs.Prelude.{◌≡◌, ◌+◌, ℕ, List};
 ghost use Rattle.plain_cat.specs.declared.command.Cmd.{Cmd};
 ghost use Rattle.plain_cat.specs.declared.reply.Reply.{Reply};

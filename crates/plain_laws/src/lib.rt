@@ -6,7 +6,7 @@
 //! and each usage is what the owner's files cost. `mending_is_idempotent`: a second mending does nothing, under the two
 //! conditions that it names.
 //!
-//! The laws of opens, of mending and of cached blocks use them (`plain_histories`, `plain_mends`, `core_cached`).
+//! The laws of opens, of mending and of cached blocks use them (`plain_histories`, `plain_mends`, `core_state`).
 #![tactic(auto)]
 
 mod clearing;

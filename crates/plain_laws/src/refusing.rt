@@ -1,3 +1,5 @@
+//! A law of refusals: they change nothing.
+
 ghost use Rattle.std.specs.Prelude.{◌≡◌, ℕ};
 ghost use Rattle.plain_cat.specs.declared.command.Cmd.{Cmd};
 ghost use Rattle.plain_cat.specs.declared.reply.Refusal.{Refusal};

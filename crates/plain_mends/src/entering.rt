@@ -1,3 +1,5 @@
+//! Laws of mending while lost files are entered in `[SYSLOST]`.
+
 ghost use Rattle.std.specs.Prelude.{◌≡◌, ◌<◌, ◌++◌, ℕ, true, false, List, [], ◌∷◌, Some, None, length};
 ghost use Rattle.std.specs.Str.{bytes_eq};
 ghost use Rattle.plain_cat.specs.declared.entries.DirEnt.{DirEnt};

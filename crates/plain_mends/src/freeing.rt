@@ -1,3 +1,5 @@
+//! Laws of mending while slots, leaks and usages are put in order.
+
 ghost use Rattle.std.specs.Prelude.{◌≡◌, ℕ, Bool, true, false, List, [], Some, map, length};
 ghost use Rattle.plain_cat.specs.declared.cat.Cat.{Cat};
 ghost use Rattle.plain_cat.specs.declared.cat.File.{File};

@@ -1,3 +1,5 @@
+//! A law of mending while entries are removed.
+
 ghost use Rattle.std.specs.Prelude.{◌≡◌, ◌+◌, length, filter};
 ghost use Rattle.plain_cat.specs.declared.cat.Cat.{Cat};
 ghost use Rattle.plain_cat.specs.declared.cat.File.{File};

@@ -1,3 +1,5 @@
+//! A law of sound catalogues: answers, deaths and mending keep them so.
+
 ghost use Rattle.std.specs.Prelude.{◌≡◌, ℕ, List, Option, Some};
 ghost use Rattle.plain_cat.specs.declared.command.Cmd.{Cmd};
 ghost use Rattle.plain_cat.specs.declared.reply.Reply.{Reply};

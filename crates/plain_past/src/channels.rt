@@ -1,3 +1,5 @@
+//! The channels that a node has open by its answers.
+
 ghost use Rattle.std.specs.Prelude.{◌≡◌};
 ghost use Rattle.plain_rules.specs.Own.{opened_by, closed_by, switched, channels_after, close_from};
 

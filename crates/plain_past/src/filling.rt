@@ -1,3 +1,5 @@
+//! The command of a line, with identifiers in place of registers.
+
 ghost use Rattle.std.specs.Prelude.{◌≡◌, IfOk};
 ghost use Rattle.plain_rules.specs.Own.{filled};
 

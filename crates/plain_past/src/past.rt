@@ -1,3 +1,5 @@
+//! What a node has of its answers so far: registers, open channels, and the place in its script.
+
 ghost use Rattle.std.specs.Prelude.{◌≡◌, ◌<◌, true, IfOk, is_some};
 ghost use Rattle.plain_rules.specs.Own.{newborn, after_answer, command_after};
 

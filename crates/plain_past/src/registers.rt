@@ -1,3 +1,5 @@
+//! The registers of a node, which hold identifiers that answers told.
+
 ghost use Rattle.std.specs.Prelude.{◌≡◌};
 ghost use Rattle.plain_rules.specs.Own.{register_of, found_fid, registers_after, resolved};
 

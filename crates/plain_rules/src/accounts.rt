@@ -1,3 +1,5 @@
+//! Quotas: what an owner is charged, and whether a catalogue keeps its limits.
+
 ghost use Rattle.std.specs.Prelude.{◌≡◌, ◌≤◌, ◌+◌, ◌*◌, ◌↔◌, ◌<◌, IsTrue, All, Option, length};
 ghost use Rattle.plain_cat.specs.declared.cat.Slot.{Slot};
 ghost use Rattle.plain_cat.specs.declared.cat.QuotaRow.{QuotaRow};

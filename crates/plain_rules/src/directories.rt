@@ -1,4 +1,6 @@
-ghost use Rattle.std.specs.Prelude.{◌≡◌, ◌≤◌, IfOk, option_copied, not, length};
+//! The entries of a directory: look-ups, and one entry more in its place in order.
+
+ghost use Rattle.std.specs.Prelude.{◌≡◌, ◌≤◌, IfOk, OnOk, OnErr, option_copied, not, length};
 ghost use Rattle.std.specs.List.{insert};
 ghost use Rattle.plain_rules.specs.Answers.{dir_name};
 ghost use Rattle.plain_rules.specs.Directories.{is_nil, lower, before, inserted};
@@ -89,7 +91,7 @@ fn is_before(a: &DirEnt, b: &DirEnt) -> bool
 }
 
 // The place of a new entry, before the first one that comes after it.
-fn entry_place(e: &DirEnt, entries: &[DirEnt]) -> usize
+pub(crate) fn entry_place(e: &DirEnt, entries: &[DirEnt]) -> usize
     ensures within { result ≤ length entries.now }
     ensures value { insert entries.now result e.now ≡ inserted e.now entries.now }
 {
@@ -101,13 +103,21 @@ fn entry_place(e: &DirEnt, entries: &[DirEnt]) -> usize
     entries.len()
 }
 
+/// Puts an entry in its place in order. A refusal of memory leaves the entries as they were.
+pub fn insert_in(entries: &mut DirEnts, e: DirEnt) -> Result<(), NoMemory>
+    ensures ok { OnOk result (entries.new ≡ inserted e entries.old) }
+    ensures err { OnErr result (entries.new ≡ entries.old) }
+{
+    let at = entry_place(&e, entries.items());
+    entries.insert(at, e)
+}
+
 /// The entries with one more, in its place in order. An error says that memory ran out.
 pub fn inserted(alloc: Global, e: DirEnt, entries: &DirEnts) -> Result<DirEnts, NoMemory>
     ensures { IfOk result (λ es. es ≡ inserted e entries.now) }
 {
-    let at = entry_place(&e, entries.items());
     let mut all = entries.copy(alloc)?;
-    all.insert(at, e)?;
+    insert_in(&mut all, e)?;
     Ok(all)
 }
 

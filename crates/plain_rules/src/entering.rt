@@ -1,3 +1,5 @@
+//! The entries of system files, which mending keeps, and of lost files, which it makes.
+
 ghost use Rattle.std.specs.Prelude.{◌≡◌, ◌≤◌, ◌-◌, slice_get, IfOk};
 ghost use Rattle.plain_rules.specs.Mending.{entries_in, is_name_of, system_names, is_own, digit, lost_name, with_lost_entry};
 

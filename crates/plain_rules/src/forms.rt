@@ -1,3 +1,5 @@
+//! Whether a command is in form.
+
 ghost use Rattle.std.specs.Prelude.{◌≡◌};
 ghost use Rattle.std.specs.List.{list_all};
 ghost use Rattle.plain_cat.specs.InForm.{is_text_char, is_dir_name, is_text, is_eighth, is_fid, is_owner, is_quota, is_open_mode, in_form};

@@ -1,3 +1,5 @@
+//! Laws of the rules, for the proofs above.
+
 ghost use Rattle.std.specs.Prelude.{◌≡◌, ◌≤◌, ◌+◌, ◌*◌, ℕ, false, is_none, Option};
 ghost use Rattle.plain_cat.specs.declared.command.Cmd.{Cmd};
 ghost use Rattle.plain_cat.specs.declared.reply.Reply.{Reply};

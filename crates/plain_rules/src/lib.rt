@@ -28,7 +28,9 @@ mod packing;
 mod places;
 
 pub use accounts::{charge, is_accounted, over_quota};
-pub use directories::{dir_name, entry_of, has_name, highest, inserted, look_up, with_version};
+pub use directories::{
+    dir_name, entry_of, has_name, highest, insert_in, inserted, look_up, with_version,
+};
 pub use entering::{entries_in, is_own, lost_name, with_lost_entry};
 pub use forms::is_in_form;
 pub use laws::{
@@ -37,7 +39,7 @@ pub use laws::{
 };
 pub use lookups::{file_at, free_clusters, in_use, live, row_of, slot_at};
 pub use outcome::Outcome;
-pub use packing::dir_fits;
+pub use packing::{dir_fits, fits_with};
 pub use places::Place;
 pub use plain_cat::{
     Blocks, Cat, Channels, Clusters, Cmd, DirEnt, DirEnts, Entry, Fid, File, FileRef, Files, Flags,

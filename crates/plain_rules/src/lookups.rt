@@ -1,3 +1,5 @@
+//! What stands in a catalogue: files, quota rows and free clusters.
+
 ghost use Rattle.std.specs.Prelude.{◌≡◌, ◌-◌, ◌+◌, ◌*◌, ◌≤◌, option_copied, drop, length};
 ghost use Rattle.std.specs.List.{sum_by};
 ghost use Rattle.plain_rules.specs.Lookups.{slot_at, file_at, in_use, live, row_of, clusters_in, free_clusters};

@@ -1,3 +1,5 @@
+//! The reply to a command, with the catalogue after it.
+
 use plain_cat::{Cat, Reply};
 
 /// What a command is answered, and the catalogue after it.

@@ -1,3 +1,5 @@
+//! An entry with the directory that it stands in.
+
 use plain_cat::DirEnt;
 
 /// An entry of a directory, and the number of the directory.

@@ -1,3 +1,5 @@
+//! Identifiers, owners, names and modes as they are printed.
+
 ghost use Rattle.std.specs.Prelude.{◌≡◌, ◌≤◌, ◌<◌, ◌+◌, ◌/◌, ◌%◌, ◌++◌, OnOk, OnErr, codes, decimal, length};
 ghost use Rattle.plain_texts.specs.Names.{fid_text, uic_text, mode_text};
 ghost use Rattle.plain_cat.specs.Names.{text_of as entry_text};

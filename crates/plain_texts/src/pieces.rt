@@ -1,3 +1,5 @@
+//! Pieces of text: bytes and numbers, appended.
+
 ghost use Rattle.std.specs.Prelude.{◌≡◌, ◌++◌, OnOk, OnErr, decimal};
 ghost use Rattle.plain_texts.specs.Names.{octal};
 

@@ -1,3 +1,5 @@
+//! The lines of a report: answers, deaths and mendings.
+
 ghost use Rattle.std.specs.Prelude.{◌≡◌, ◌++◌, ◌+◌, OnOk, OnErr};
 ghost use Rattle.plain_texts.specs.Reports.{stage_text, leaks_text, entries_text, mended_text, node_text, entry_line, line_text, lines_text};
 

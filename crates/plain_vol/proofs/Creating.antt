@@ -12,10 +12,12 @@ use Rattle.plain_cat.specs.declared.reply.Refusal.TheVariants as refusal
 use Rattle.plain_rules.specs.declared.outcome.Outcome.{Outcome}
 use Rattle.plain_rules.specs.Lookups.{live, versions, row_of, free_clusters, header_most}
 use Rattle.plain_rules.specs.Directories.{inserted, fits, entry, nowhere, new_version, is_last_version, is_taken}
-use Rattle.plain_rules.specs.Changes.{in_clusters, cost, with_file, charged, new_fid, new_file}
+use Rattle.plain_rules.specs.Changes.{in_clusters, cost, with_file, with_entries, charged, new_fid, new_file}
 use Rattle.plain_rules.specs.Answers.{refused, first_refusal, unless, in_directory_file, over_quota, create_refusal, create_made, create_outcome}
 use Rattle.plain_rules.specs.Answers.{room_checks as all_room_checks}
-use Rattle.plain_vol.specs.Makings.{version_for, room_checks, IsGrown}
+use Rattle.plain_vol.specs.Makings.{version_for, room_checks, placed, made_in}
+use Rattle.plain_rules.proofs.Rooms.{room_alike}
+use Rattle.plain_vol.proofs.Changing.{live_at}
 
 abbrev Said : Type 0
 Said = Option Refusal
@@ -79,20 +81,23 @@ module _ (c : Cat) (dir : Fid) (name : List ℕ) (ver blocks : ℕ) (owner : Uic
         → first_refusal (all_room_checks c d name v owner k new) ≡ cond (not b) (Some refusal.DirFull) (first_refusal (room_checks c owner k new))
     room b h = ap (λ (b : Bool). cond (not b) (Some refusal.DirFull) (first_refusal (room_checks c owner k new))) h
 
-    pub full : (e : DirEnt) → e.name ≡ name → e.ver ≡ v → IsGrown c d e None → refused c refusal.DirFull ≡ answer
-    full e n w h = refuses refusal.DirFull (left ∙ room false ((λ i. fits c.factor (inserted (entry (sym n i) (sym w i) nowhere) d.entries)) ∙ h))
+    fits_is : (e : DirEnt) (b : Bool) → e.name ≡ name → e.ver ≡ v → fits c.factor (inserted e d.entries) ≡ b → fits c.factor (inserted (entry name v nowhere) d.entries) ≡ b
+    fits_is e b n w h = (λ i. fits c.factor (inserted (entry (sym n i) (sym w i) nowhere) d.entries)) ∙ sym (room_alike c.factor e d.entries) ∙ h
 
-    fits_so : (e : DirEnt) (f : File) → e.name ≡ name → e.ver ≡ v → IsGrown c d e (Some f) → create_refusal c d name ver blocks owner new ≡ first_refusal (room_checks c owner k new)
-    fits_so e f n w h = left ∙ room true ((λ i. fits c.factor (inserted (entry (sym n i) (sym w i) nowhere) d.entries)) ∙ h.0)
+    pub full : (e : DirEnt) → e.name ≡ name → e.ver ≡ v → fits c.factor (inserted e d.entries) ≡ false → refused c refusal.DirFull ≡ answer
+    full e n w h = refuses refusal.DirFull (left ∙ room false (fits_is e false n w h))
 
-    pub roomless : (e : DirEnt) (f : File) (r : Refusal) → e.name ≡ name → e.ver ≡ v → IsGrown c d e (Some f) → first_refusal (room_checks c owner k new) ≡ Some r → refused c r ≡ answer
-    roomless e f r n w h is = refuses r (fits_so e f n w h ∙ is)
+    fits_so : (e : DirEnt) → e.name ≡ name → e.ver ≡ v → fits c.factor (inserted e d.entries) ≡ true → create_refusal c d name ver blocks owner new ≡ first_refusal (room_checks c owner k new)
+    fits_so e n w h = left ∙ room true (fits_is e true n w h)
 
-    -- what is answered of a new file and its directory
-    abbrev out : Fid → List ℕ → ℕ → File → File → Outcome
-    out fid shown w directory file = record {
-      reply = reply.Found fid shown w;
-      after = with_file (with_file (charged c file.owner (cost c file.clusters)) fid.num file) dir.num directory;
+    pub roomless : (e : DirEnt) (r : Refusal) → e.name ≡ name → e.ver ≡ v → fits c.factor (inserted e d.entries) ≡ true → first_refusal (room_checks c owner k new) ≡ Some r → refused c r ≡ answer
+    roomless e r n w h is = refuses r (fits_so e n w h ∙ is)
+
+    -- what is answered of a new file and its entry
+    abbrev pub out : DirEnt → File → Outcome
+    out e file = record {
+      reply = reply.Found e.fid e.name e.ver;
+      after = with_entries (with_file (charged c file.owner (cost c file.clusters)) e.fid.num file) dir.num d (inserted e d.entries);
     }
 
     asked : (a b : Bool) (rest : Said) → cond a (Some refusal.NoQuota) (cond b (Some refusal.ExQuota) (cond true (Some refusal.IndexFull) rest)) ≡ None → ⊥
@@ -104,16 +109,19 @@ module _ (c : Cat) (dir : Fid) (name : List ℕ) (ver blocks : ℕ) (owner : Uic
     numbered None h = absurd (asked (is_none (row_of owner c.quota)) (over_quota (row_of owner c.quota) (cost c k)) (cond (nat_lt (free_clusters c) k) (Some refusal.DeviceFull) None) h)
     numbered (Some n) h = (n, refl)
 
-    pub makes : (e : DirEnt) (f : File) (shown : List ℕ) (file : File) → e.name ≡ name → e.ver ≡ v → IsGrown c d e (Some f) → first_refusal (room_checks c owner k new) ≡ None
-        → ((n : ℕ) → new ≡ Some n → e.fid ≡ new_fid c n) → shown ≡ name → file ≡ new_file e.fid.seq owner k → out e.fid shown v f file ≡ answer
-    makes e f shown file n w h none fid_is shown_is file_is =
+    pub makes : (e : DirEnt) (file : File) → e.name ≡ name → e.ver ≡ v → fits c.factor (inserted e d.entries) ≡ true → first_refusal (room_checks c owner k new) ≡ None
+        → ((n : ℕ) → new ≡ Some n → e.fid ≡ new_fid c n) → file ≡ new_file e.fid.seq owner k → made_in c dir.num (Ok (record { entry = e; file = file })) ≡ answer
+    makes e file n w h none fid_is file_is =
         let number = numbered new none in
         let fid : e.fid ≡ new_fid c number.0 = fid_is number.0 number.1 in
-        let made : Fid → ℕ → ℕ → Outcome = λ fid w k. out fid name w (record d { entries = inserted (entry name w fid) d.entries }) (new_file fid.seq owner k) in
-        let first : out e.fid shown v f file ≡ out e.fid name v (record d { entries = inserted e d.entries }) (new_file e.fid.seq owner k) = λ i. out e.fid (shown_is i) v (h.1 i) (file_is i) in
-        let second : out e.fid name v (record d { entries = inserted e d.entries }) (new_file e.fid.seq owner k) ≡ made e.fid v k =
-        λ i. out e.fid name v (record d { entries = inserted (entry (n i) (w i) e.fid) d.entries }) (new_file e.fid.seq owner k) in
+        let made : Fid → ℕ → ℕ → Outcome = λ fid w k. out (entry name w fid) (new_file fid.seq owner k) in
+        let found : made_in c dir.num (Ok (record { entry = e; file = file })) ≡ out e file = λ i. record {
+          reply = reply.Found e.fid e.name e.ver;
+          after = placed (charged c file.owner (cost c file.clusters)) dir.num e file (live_at c dir d live_is i);
+        } in
+        let first : out e file ≡ out e (new_file e.fid.seq owner k) = ap (out e) file_is in
+        let second : out e (new_file e.fid.seq owner k) ≡ made e.fid v k = λ i. out (entry (n i) (w i) e.fid) (new_file e.fid.seq owner k) in
         let third : made e.fid v k ≡ made (new_fid c number.0) (new_version ver of_name) (in_clusters c blocks) = λ i. made (fid i) (sym same_version i) (clusters i) in
         let last : made (new_fid c number.0) (new_version ver of_name) (in_clusters c blocks) ≡ answer =
-        sym (in_dir ∙ ap (λ (o : Said). unless c o (create_made c dir.num d name ver blocks owner new)) (fits_so e f n w h ∙ none) ∙ ap (create_made c dir.num d name ver blocks owner) number.1) in
-        first ∙ second ∙ third ∙ last
+        sym (in_dir ∙ ap (λ (o : Said). unless c o (create_made c dir.num d name ver blocks owner new)) (fits_so e n w h ∙ none) ∙ ap (create_made c dir.num d name ver blocks owner) number.1) in
+        found ∙ first ∙ second ∙ third ∙ last

@@ -1,2 +1,4 @@
+pub mod Changing
 pub mod Closing
 pub mod Creating
+pub mod Deleting

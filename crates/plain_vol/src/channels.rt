@@ -1,13 +1,15 @@
-ghost use Rattle.std.specs.Prelude.{◌≡◌, ◌<◌, ◌^◌, ◌+◌, ◌≤◌, ◌++◌, replicate, IfOk, OnOk, length};
+//! The commands of channels: OPEN, CLOSE and WRITE.
+
+ghost use Rattle.std.specs.Prelude.{◌≡◌, ◌<◌, ◌^◌, ◌+◌, ◌≤◌, ◌++◌, ℕ, List, replicate, IfOk, OnOk, length};
 ghost use Rattle.std.specs.List.{list_any};
 ghost use Rattle.base_words.specs.Tables.{zeros};
 ghost use Rattle.plain_rules.specs.Accounts.{Accounted};
 ghost use Rattle.plain_rules.specs.Lookups.{file_at};
 ghost use Rattle.plain_rules.specs.Changes.{text_block, with_block, written};
 ghost use Rattle.plain_rules.specs.Answers.{conflicts, open_outcome, close_outcome, is_reading, write_outcome};
-ghost use Rattle.plain_vol.specs.Makings.{last_of, closed_by, rewritten_in};
+ghost use Rattle.plain_vol.specs.Makings.{changed, last_of, closed_by, rewritten_in};
 
-use crate::changes::{set_channel, set_slot};
+use crate::changes::{set_channel, set_slot, take_file};
 use crate::lookups::{channel_at, is_open};
 use crate::naming::{Goner, goner_of, remove};
 use crate::outcomes::{refused, told};
@@ -19,13 +21,6 @@ use plain_cat::{
 };
 use plain_rules::{Outcome, file_at, live};
 use std::alloc::Global;
-
-/// A file with a block written, and its number.
-#[derive(Drop)]
-pub struct Rewriting {
-    number: u32,
-    file: File,
-}
 
 fn conflicts(n: u32, mode: Mode, held: Option<Open>) -> bool
     ensures { result ≡ conflicts n mode held }
@@ -143,95 +138,76 @@ fn push_zeros(blocks: &mut Blocks, k: u32) -> Result<(), NoMemory>
     Ok(())
 }
 
-// The visible blocks after a write.
-fn with_block(alloc: Global, file: &File, vbn: u32, block: &Block) -> Result<Blocks, NoMemory>
-    ensures { IfOk result (λ bs. bs ≡ with_block file.now vbn block.now) }
+// Puts a block among the visible ones.
+fn put_block(file: &mut File, vbn: u32, block: &Block) -> Result<(), NoMemory>
+    ensures { OnOk result (file.new ≡ record file.old { written = with_block file.old vbn block.now }) }
 {
-    let mut blocks = file.written.copy(alloc)?;
     if is_past_mark(file, vbn) {
-        push_zeros(&mut blocks, vbn.saturating_sub(file.mark))?;
-        blocks.push(*block)?;
-        return Ok(blocks);
+        push_zeros(&mut file.written, vbn.saturating_sub(file.mark))?;
+        file.written.push(*block)?;
+        return Ok(());
     }
     let at = vbn.saturating_sub(1) as usize;
-    if at < blocks.items().len() {
-        blocks.set(at, *block);
+    if at < file.written.items().len() {
+        file.written.set(at, *block);
     }
-    Ok(blocks)
+    Ok(())
 }
 
-// The file with other visible blocks.
-fn with_blocks(alloc: Global, file: &File, blocks: Blocks) -> Result<File, NoMemory>
-    ensures { IfOk result (λ f. f ≡ record file.now { written = blocks }) }
-{
-    Ok(File {
-        seq: file.seq,
-        owner: file.owner,
-        dir: file.dir,
-        clusters: file.clusters,
-        mark: file.mark,
-        end: file.end,
-        byte: file.byte,
-        marked: file.marked,
-        written: blocks,
-        entries: file.entries.copy(alloc)?,
-    })
-}
-
-// The file with a virtual block written.
+// Writes a virtual block of a file. After want of memory it may have some blocks of zeros more.
 #[tactic(auto)]
-fn written(alloc: Global, file: &File, vbn: u32, text: &Name) -> Result<File, NoMemory>
+fn write_in(file: &mut File, vbn: u32, text: &Name) -> Result<(), NoMemory>
     requires text { length text.now ≤ 512 }
     requires vbn { vbn + 1 < 2 ^ 32 }
-    ensures { IfOk result (λ f. f ≡ written file.now vbn text.now) }
+    ensures { OnOk result (file.new ≡ written file.old vbn text.now) }
 {
-    let blocks = with_block(alloc, file, vbn, &text_block(text))?;
-    let mut after = with_blocks(alloc, file, blocks)?;
+    put_block(file, vbn, &text_block(text))?;
     if is_past_mark(file, vbn) {
-        after.mark = vbn + 1;
+        file.mark = vbn + 1;
     }
     if file.end <= vbn {
-        after.end = vbn + 1;
-        after.byte = 0;
+        file.end = vbn + 1;
+        file.byte = 0;
     }
-    Ok(after)
+    Ok(())
 }
 
-// What WRITE leaves, or why it writes nothing.
-#[tactic(auto, unfolding(plain_rules::specs::Answers::write_outcome))]
-fn rewritten(
-    alloc: Global,
-    cat: &Cat,
-    node: u8,
-    chan: u8,
-    vbn: u32,
-    text: &Name,
-) -> Result<Result<Rewriting, Refusal>, NoMemory>
+// Writes a virtual block of the file of a number. After want of memory the file is gone.
+fn rewrite(cat: &mut Cat, n: u32, vbn: u32, text: &Name) -> Result<(), NoMemory>
     requires text { length text.now ≤ 512 }
-    requires vbn { vbn ≤ 65536 }
-    ensures { IfOk result (λ w. rewritten_in cat.now w ≡ write_outcome cat.now node chan vbn text.now) }
+    requires vbn { vbn + 1 < 2 ^ 32 }
+    ensures { OnOk result (cat.new ≡ changed cat.old n (λ f. written f vbn text.now)) }
+{
+    let Some(mut file) = take_file(cat, n) else {
+        return Ok(());
+    };
+    write_in(&mut file, vbn, text)?;
+    set_slot(cat, n, Slot::Used(file));
+    Ok(())
+}
+
+// The number of the file that a write goes to, or why nothing is written.
+#[tactic(auto, unfolding(plain_rules::specs::Answers::write_outcome))]
+fn write_to(cat: &Cat, node: u8, chan: u8, vbn: u32) -> Result<u32, Refusal>
+    ensures { (text : List ℕ) → rewritten_in cat.now vbn text result ≡ write_outcome cat.now node chan vbn text }
 {
     let Some(held) = channel_at(cat, node, chan) else {
-        return Ok(Err(Refusal::NotOpen));
+        return Err(Refusal::NotOpen);
     };
     if is_reading(held.mode) {
-        return Ok(Err(Refusal::NoPriv));
+        return Err(Refusal::NoPriv);
     }
     let Some(file) = file_at(cat, held.file) else {
-        return Ok(Err(Refusal::EndOfFile));
+        return Err(Refusal::EndOfFile);
     };
     if is_outside(cat, file, vbn) {
-        return Ok(Err(Refusal::EndOfFile));
+        return Err(Refusal::EndOfFile);
     }
-    Ok(Ok(Rewriting {
-        number: held.file,
-        file: written(alloc, file, vbn, text)?,
-    }))
+    Ok(held.file)
 }
 
 // WRITE
 pub(crate) fn write(
-    alloc: Global,
     mut cat: Cat,
     node: u8,
     chan: u8,
@@ -242,11 +218,10 @@ pub(crate) fn write(
     requires vbn { vbn ≤ 65536 }
     ensures { IfOk result (λ o. o ≡ write_outcome cat node chan vbn text.now) }
 {
-    let rewriting = rewritten(alloc, &cat, node, chan, vbn, text)?;
-    match rewriting {
+    match write_to(&cat, node, chan, vbn) {
         Err(refusal) => Ok(refused(cat, refusal)),
-        Ok(rewriting) => {
-            set_slot(&mut cat, rewriting.number, Slot::Used(rewriting.file));
+        Ok(number) => {
+            rewrite(&mut cat, number, vbn, text)?;
             Ok(told(cat, Reply::Written))
         }
     }

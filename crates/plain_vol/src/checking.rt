@@ -1,3 +1,5 @@
+//! What the judge of an entry says.
+
 use plain_cat::Cat;
 
 /// What the judge says of an entry.

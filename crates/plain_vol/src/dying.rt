@@ -1,3 +1,5 @@
+//! What the death of a node leaves.
+
 ghost use Rattle.std.specs.Prelude.{◌≡◌, ◌≤◌, ◌+◌, ◌<◌, ◌^◌, [], IfSome, None};
 ghost use Rattle.plain_rules.specs.Lookups.{free_clusters};
 ghost use Rattle.plain_rules.specs.Replaying.{closed_channels, flagged, are_free, dead};

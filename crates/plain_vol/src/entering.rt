@@ -1,12 +1,15 @@
+//! The entries of all directories, and lost files that are entered again.
+
 ghost use Rattle.std.specs.Prelude.{◌≡◌, ◌≤◌, ◌+◌, ◌++◌, ◌<◌, map, length, IfOk, OnOk};
 ghost use Rattle.std.specs.List.{list_any};
 ghost use Rattle.plain_cat.specs.declared.entries.DirEnt.{DirEnt};
 ghost use Rattle.plain_rules.specs.declared.places.Place.{Place};
 ghost use Rattle.plain_rules.specs.Mending.{places, same_fid, same_place, is_first, is_empty, is_lost_slot, lost, enter, enter_all, enter_some};
+ghost use Rattle.plain_vol.specs.Makings.{changed};
+ghost use Rattle.plain_vol.specs.Mends.{entered_as, IsEntering};
 
-use crate::changes::set_slot;
-use crate::entries::with_entries;
-use plain_cat::{Cat, DirEnt, Fid, File, NoMemory, Slot};
+use crate::changes::{set_slot, take_file};
+use plain_cat::{Cat, DirEnt, DirEnts, Fid, File, NoMemory, Slot};
 use plain_rules::{Place, entries_in, file_at, with_lost_entry};
 use std::alloc::Global;
 
@@ -121,10 +124,10 @@ pub(crate) fn lost(
     Ok(found)
 }
 
-// Enters a lost file in [SYSLOST], if there is room.
+// The entries of [SYSLOST] with that of a lost file, if there is room.
 #[tactic(auto, unfolding(plain_rules::specs::Mending::enter))]
-fn enter(alloc: Global, cat: &Cat, n: u32) -> Result<Option<Cat>, NoMemory>
-    ensures { IfOk result (λ o. o ≡ enter cat.now n) }
+fn with_lost(alloc: Global, cat: &Cat, n: u32) -> Result<Option<DirEnts>, NoMemory>
+    ensures { IfOk result (λ o. entered_as cat.now o ≡ enter cat.now n) }
 {
     let Some(d) = file_at(cat, 11) else {
         return Ok(None);
@@ -132,12 +135,29 @@ fn enter(alloc: Global, cat: &Cat, n: u32) -> Result<Option<Cat>, NoMemory>
     let Some(file) = file_at(cat, n) else {
         return Ok(None);
     };
-    let Some(entries) = with_lost_entry(alloc, &d.entries, n, file.seq, cat.factor)? else {
-        return Ok(None);
+    with_lost_entry(alloc, &d.entries, n, file.seq, cat.factor)
+}
+
+// Gives a directory these entries in place of its own.
+fn put_entries(cat: &mut Cat, n: u32, entries: DirEnts)
+    ensures { cat.new ≡ changed cat.old n (λ d. record d { entries = entries }) }
+{
+    let Some(mut dir) = take_file(cat, n) else {
+        return;
     };
-    let mut after = cat.copy(alloc)?;
-    set_slot(&mut after, 11, Slot::Used(with_entries(alloc, d, entries)?));
-    Ok(Some(after))
+    dir.entries = entries;
+    set_slot(cat, n, Slot::Used(dir));
+}
+
+// Enters a lost file in [SYSLOST], if there is room: whether there was.
+fn enter(alloc: Global, cat: &mut Cat, n: u32) -> Result<bool, NoMemory>
+    ensures { IfOk result (IsEntering cat.old cat.new n) }
+{
+    let Some(entries) = with_lost(alloc, cat, n)? else {
+        return Ok(false);
+    };
+    put_entries(cat, 11, entries);
+    Ok(true)
 }
 
 // Enters these files, or none where one has no room.
@@ -146,9 +166,8 @@ pub(crate) fn enter_all(alloc: Global, cat: Cat, numbers: &[u32]) -> Result<Opti
 {
     let mut after = cat;
     for n in numbers {
-        match enter(alloc, &after, *n)? {
-            Some(next) => after = next,
-            None => return Ok(None),
+        if !enter(alloc, &mut after, *n)? {
+            return Ok(None);
         }
     }
     Ok(Some(after))
@@ -160,9 +179,7 @@ pub(crate) fn enter_some(alloc: Global, cat: Cat, numbers: &[u32]) -> Result<Cat
 {
     let mut after = cat;
     for n in numbers {
-        if let Some(next) = enter(alloc, &after, *n)? {
-            after = next;
-        }
+        let _entered = enter(alloc, &mut after, *n)?;
     }
     Ok(after)
 }

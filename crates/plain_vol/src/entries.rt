@@ -1,10 +1,12 @@
-ghost use Rattle.std.specs.Prelude.{◌≡◌, IfOk};
-ghost use Rattle.plain_rules.specs.Directories.{is_entry, without};
-ghost use Rattle.plain_vol.specs.Makings.{IsGrown};
+//! Directories with one entry more or fewer.
 
-use plain_cat::{Cat, DirEnt, DirEnts, File, Name, NoMemory};
-use plain_rules::{dir_fits, inserted};
-use std::alloc::Global;
+ghost use Rattle.std.specs.Prelude.{◌≡◌, OnOk, OnErr};
+ghost use Rattle.plain_rules.specs.Directories.{is_entry, inserted, without};
+ghost use Rattle.plain_vol.specs.Makings.{changed};
+
+use crate::changes::{set_slot, take_file};
+use plain_cat::{Cat, DirEnt, DirEnts, File, Name, NoMemory, Slot};
+use plain_rules::insert_in;
 
 #[tactic(auto, unfolding(plain_rules::specs::Directories::is_entry))]
 fn is_entry(e: &DirEnt, name: &Name, ver: u16) -> bool
@@ -13,55 +15,60 @@ fn is_entry(e: &DirEnt, name: &Name, ver: u16) -> bool
     e.name.is_same(name) && e.ver == ver
 }
 
-// The entries without the one of this name and version.
-pub(crate) fn without(
-    alloc: Global,
-    name: &Name,
-    ver: u16,
-    entries: &DirEnts,
-) -> Result<DirEnts, NoMemory>
-    ensures { IfOk result (λ es. es ≡ without name.now ver entries.now) }
+// Takes the entry of this name and version out, and any further one of the same.
+fn remove_all(entries: &mut DirEnts, name: &Name, ver: u16)
+    ensures { entries.new ≡ without name.now ver entries.old }
 {
-    let mut left = DirEnts::new(alloc);
-    for e in entries.items() {
-        if !is_entry(e, name, ver) {
-            left.push(e.copy(alloc)?)?;
+    let all = entries.items().len();
+    for i in 0..all {
+        let at = all - 1 - i;
+        if is_entry(&entries.items()[at], name, ver) {
+            entries.remove(at);
         }
     }
-    Ok(left)
 }
 
-// A directory with these entries.
-pub(crate) fn with_entries(alloc: Global, dir: &File, entries: DirEnts) -> Result<File, NoMemory>
-    ensures { IfOk result (λ f. f ≡ record dir.now { entries = entries }) }
+// Takes the entry of this name and version out of a directory.
+fn leave_in(dir: &mut File, name: &Name, ver: u16)
+    ensures { dir.new ≡ record dir.old { entries = without name.now ver dir.old.entries } }
 {
-    Ok(File {
-        seq: dir.seq,
-        owner: dir.owner,
-        dir: dir.dir,
-        clusters: dir.clusters,
-        mark: dir.mark,
-        end: dir.end,
-        byte: dir.byte,
-        marked: dir.marked,
-        written: dir.written.copy(alloc)?,
-        entries,
-    })
+    remove_all(&mut dir.entries, name, ver);
 }
 
-// A directory with one entry more, or none where its entries do not pack then.
-#[tactic(auto, using(plain_rules::proofs::Rooms::room_alike))]
-pub(crate) fn with_entry(
-    alloc: Global,
-    cat: &Cat,
-    dir: &File,
+// Puts an entry into a directory, in its place in order. After want of memory the directory is as before.
+pub(crate) fn enter_in(dir: &mut File, e: DirEnt) -> Result<(), NoMemory>
+    ensures ok { OnOk result (dir.new ≡ record dir.old { entries = inserted e dir.old.entries }) }
+    ensures err { OnErr result (dir.new ≡ dir.old) }
+{
+    insert_in(&mut dir.entries, e)
+}
+
+// Takes the entry of this name and version out of the directory of a number.
+pub(crate) fn leave(cat: &mut Cat, n: u32, name: &Name, ver: u16)
+    ensures { cat.new ≡ changed cat.old n (λ d. record d { entries = without name.now ver d.entries }) }
+{
+    let Some(mut dir) = take_file(cat, n) else {
+        return;
+    };
+    leave_in(&mut dir, name, ver);
+    set_slot(cat, n, Slot::Used(dir));
+}
+
+// The same, and puts another entry in. After want of memory the directory is gone.
+pub(crate) fn replace(
+    cat: &mut Cat,
+    n: u32,
+    name: &Name,
+    ver: u16,
     e: DirEnt,
-) -> Result<Option<File>, NoMemory>
-    ensures { IfOk result (IsGrown cat.now dir.now e) }
+) -> Result<(), NoMemory>
+    ensures { OnOk result (cat.new ≡ changed cat.old n (λ d. record d { entries = inserted e (without name.now ver d.entries) })) }
 {
-    let entries = inserted(alloc, e, &dir.entries)?;
-    if !dir_fits(entries.items(), cat.factor) {
-        return Ok(None);
-    }
-    Ok(Some(with_entries(alloc, dir, entries)?))
+    let Some(mut dir) = take_file(cat, n) else {
+        return Ok(());
+    };
+    leave_in(&mut dir, name, ver);
+    enter_in(&mut dir, e)?;
+    set_slot(cat, n, Slot::Used(dir));
+    Ok(())
 }

@@ -1,3 +1,5 @@
+//! Extension headers: how many a file has, and when it needs one more.
+
 ghost use Rattle.std.specs.Prelude.{◌≡◌, ◌<◌, ◌+◌, ◌^◌, drop};
 ghost use Rattle.plain_rules.specs.Lookups.{extra, extra_in, needs_header};
 

@@ -1,3 +1,5 @@
+//! The judge of an entry of a history.
+
 ghost use Rattle.std.specs.Prelude.{◌≡◌, ◌≤◌, ◌↔◌, IsTrue, true, ℕ, Option, Some, IfOk, length};
 ghost use Rattle.plain_cat.specs.InForm.{in_form};
 ghost use Rattle.plain_cat.specs.declared.history.Entry.TheVariants.{Done, Died};

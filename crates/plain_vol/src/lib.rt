@@ -2,7 +2,8 @@
 //! of `plain_rules`, which it passes on with the types.
 //!
 //! `check_reply` is the judge of an entry of a history, and gives `Checked`. `outcome_on` takes a `Cat` by value, changes it in place
-//! and gives an `Outcome`; `died_on` does the same for a death.
+//! and gives an `Outcome`; `died_on` does the same for a death. A command takes the file that it changes out of the catalogue, changes
+//! it and puts it back, so that no contents and no directory are copied.
 //!
 //! ```text
 //! let Checked::Legal(after) = check_reply(alloc, &cat, &entry)? else { .. };

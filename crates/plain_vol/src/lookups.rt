@@ -1,8 +1,19 @@
-ghost use Rattle.std.specs.Prelude.{◌≡◌};
-ghost use Rattle.plain_rules.specs.Lookups.{slot_at, last_seq, channel_at, has_file, is_open, place};
+//! What stands in a catalogue: the last sequence of a number, what a channel has open.
 
-use plain_cat::{Cat, Open, Slot};
-use plain_rules::slot_at;
+ghost use Rattle.std.specs.Prelude.{◌≡◌, Some, IfSome, option_copied};
+ghost use Rattle.plain_rules.specs.Lookups.{slot_at, file_at, live, last_seq, channel_at, has_file, is_open, place};
+
+use plain_cat::{Cat, Fid, File, Open, Slot};
+use plain_rules::{live, slot_at};
+
+// The live file under an identifier, which stands under its number.
+#[tactic(auto, using(crate::proofs::Changing::live_at))]
+pub(crate) fn live_file(cat: &Cat, fid: Fid) -> Option<&File>
+    ensures live { option_copied result ≡ live cat.now fid }
+    ensures stands { IfSome (option_copied result) (λ f. file_at cat.now fid.num ≡ Some f) }
+{
+    live(cat, fid)
+}
 
 // The last sequence of a number.
 pub(crate) fn last_seq(cat: &Cat, n: u32) -> u16

@@ -1,30 +1,30 @@
-ghost use Rattle.std.specs.Prelude.{◌≡◌, ◌≤◌, ◌<◌, ◌^◌, ◌+◌, ℕ, Some, IfOk};
+//! CREATE and MKDIR.
+
+ghost use Rattle.std.specs.Prelude.{◌≡◌, ◌≤◌, ◌<◌, ◌^◌, ◌+◌, ℕ, Some, IfOk, OnOk};
 ghost use Rattle.plain_rules.specs.Accounts.{Accounted};
 ghost use Rattle.plain_rules.specs.Changes.{cost, new_fid, new_file, new_dir};
 ghost use Rattle.plain_rules.specs.Answers.{first_refusal, create_outcome, mkdir_outcome};
-ghost use Rattle.plain_rules.specs.Lookups.{versions, header_most};
-ghost use Rattle.plain_vol.specs.Makings.{room_checks, version_for, made_in};
+ghost use Rattle.plain_rules.specs.Lookups.{versions, header_most, file_at};
+ghost use Rattle.plain_vol.specs.Makings.{room_checks, version_for, placed, made_in};
 
-use crate::changes::{charge, cost, in_clusters, set_slot};
-use crate::entries::with_entry;
+use crate::changes::{charge, cost, in_clusters, set_slot, take_file};
+use crate::entries::enter_in;
 use crate::headers::HEADER_MOST;
-use crate::lookups::last_seq;
-use crate::outcomes::refused;
+use crate::lookups::{last_seq, live_file};
+use crate::outcomes::{refused, told};
 use plain_cat::{
     Blocks, Cat, DirEnt, DirEnts, Fid, File, Name, NoMemory, Refusal, Reply, Slot, Uic,
 };
 use plain_rules::{
-    Outcome, dir_name, free_clusters, has_name, highest, live, over_quota, row_of, with_version,
+    Outcome, dir_name, fits_with, free_clusters, has_name, highest, over_quota, row_of,
+    with_version,
 };
 use std::alloc::Global;
 
-/// A new file, its entry, and the directory with that entry.
+/// A new file and its entry.
 #[derive(Drop)]
 pub struct Made {
-    fid: Fid,
-    name: Name,
-    ver: u16,
-    directory: File,
+    entry: DirEnt,
     file: File,
 }
 
@@ -137,7 +137,7 @@ fn created(
     ensures made { IfOk result (λ m. made_in cat.now dir.num m ≡ create_outcome cat.now dir name.now ver blocks owner new) }
     ensures small { IfOk result (λ m. IfOk m (λ m. m.file.clusters ≤ header_most)) }
 {
-    let Some(d) = live(cat, dir) else {
+    let Some(d) = live_file(cat, dir) else {
         return Ok(Err(Refusal::NoSuchFile));
     };
     if !d.dir {
@@ -157,23 +157,20 @@ fn created(
         ver,
         fid,
     };
-    let Some(directory) = with_entry(alloc, cat, d, e)? else {
+    if !fits_with(d.entries.items(), &e, cat.factor) {
         return Ok(Err(Refusal::DirFull));
-    };
+    }
     if let Some(refusal) = room_refusal(cat, owner, clusters, new) {
         return Ok(Err(refusal));
     }
     Ok(Ok(Made {
-        fid,
-        name: name.copy(alloc)?,
-        ver,
-        directory,
+        entry: e,
         file: new_file(alloc, fid.seq, owner, clusters),
     }))
 }
 
 // The new file of MKDIR, or why there is none.
-#[tactic(auto, unfolding(plain_rules::specs::Answers::mkdir_outcome, plain_rules::specs::Answers::mkdir_refusal))]
+#[tactic(auto, using(plain_rules::proofs::Rooms::room_alike), unfolding(plain_rules::specs::Answers::mkdir_outcome, plain_rules::specs::Answers::mkdir_refusal))]
 fn made_dir(
     alloc: Global,
     cat: &Cat,
@@ -186,7 +183,7 @@ fn made_dir(
     ensures made { IfOk result (λ m. made_in cat.now dir.num m ≡ mkdir_outcome cat.now dir name.now owner new) }
     ensures small { IfOk result (λ m. IfOk m (λ m. m.file.clusters ≤ header_most)) }
 {
-    let Some(d) = live(cat, dir) else {
+    let Some(d) = live_file(cat, dir) else {
         return Ok(Err(Refusal::NoSuchFile));
     };
     if !d.dir {
@@ -197,27 +194,34 @@ fn made_dir(
         return Ok(Err(Refusal::DupFile));
     }
     let fid = fid_of(cat, new);
-    let e = DirEnt {
-        name: name.copy(alloc)?,
-        ver: 1,
-        fid,
-    };
-    let Some(directory) = with_entry(alloc, cat, d, e)? else {
+    let e = DirEnt { name, ver: 1, fid };
+    if !fits_with(d.entries.items(), &e, cat.factor) {
         return Ok(Err(Refusal::DirFull));
-    };
+    }
     if let Some(refusal) = room_refusal(cat, owner, 1, new) {
         return Ok(Err(refusal));
     }
     Ok(Ok(Made {
-        fid,
-        name,
-        ver: 1,
-        directory,
+        entry: e,
         file: new_dir(alloc, fid.seq, owner, cat.factor),
     }))
 }
 
-// Puts a new file and its directory in their slots, and charges its owner.
+// Puts a new file under its number, and its entry into the directory of a number. After want of memory the directory is gone.
+fn place(cat: &mut Cat, dir: u32, e: DirEnt, file: File) -> Result<(), NoMemory>
+    ensures { OnOk result (cat.new ≡ placed cat.old dir e file (file_at cat.old dir)) }
+{
+    let Some(mut directory) = take_file(cat, dir) else {
+        return Ok(());
+    };
+    let n = e.fid.num;
+    enter_in(&mut directory, e)?;
+    set_slot(cat, n, Slot::Used(file));
+    set_slot(cat, dir, Slot::Used(directory));
+    Ok(())
+}
+
+// Puts a new file and its entry into a catalogue, and charges its owner.
 fn enter(
     alloc: Global,
     mut cat: Cat,
@@ -232,18 +236,15 @@ fn enter(
         Ok(made) => made,
         Err(refusal) => return Ok(refused(cat, refusal)),
     };
+    let reply = Reply::Found {
+        fid: made.entry.fid,
+        name: made.entry.name.copy(alloc)?,
+        ver: made.entry.ver,
+    };
     let all = cost(&cat, made.file.clusters);
     charge(alloc, &mut cat, made.file.owner, all)?;
-    set_slot(&mut cat, made.fid.num, Slot::Used(made.file));
-    set_slot(&mut cat, dir, Slot::Used(made.directory));
-    Ok(Outcome {
-        reply: Reply::Found {
-            fid: made.fid,
-            name: made.name,
-            ver: made.ver,
-        },
-        after: cat,
-    })
+    place(&mut cat, dir, made.entry, made.file)?;
+    Ok(told(cat, reply))
 }
 
 // CREATE

@@ -1,3 +1,5 @@
+//! Mending: the catalogue after it, and what it did.
+
 ghost use Rattle.std.specs.Prelude.{false, ◌≡◌, ◌≤◌, ◌+◌, ◌*◌, ◌<◌, map, filter, length, All, Option, None, Some, IfOk, IfSome};
 ghost use Rattle.std.specs.List.{count_by};
 ghost use Rattle.plain_cat.specs.declared.entries.DirEnt.{DirEnt};

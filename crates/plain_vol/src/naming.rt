@@ -1,17 +1,19 @@
+//! DELETE and RENAME.
+
 ghost use Rattle.std.specs.Prelude.{◌≡◌, ◌<◌, ◌^◌, option_copied, IfOk, IfSome, OnOk};
 ghost use Rattle.plain_cat.specs.declared.cat.Cat.{Cat};
 ghost use Rattle.plain_rules.specs.Accounts.{Accounted};
 ghost use Rattle.plain_rules.specs.Changes.{cost};
-ghost use Rattle.plain_rules.specs.Directories.{fits, inserted, without, entry, nowhere};
+ghost use Rattle.plain_rules.specs.Directories.{entry};
 ghost use Rattle.plain_rules.specs.Answers.{has_entries, unnamed, delete_outcome, rename_outcome};
-ghost use Rattle.plain_vol.specs.Makings.{goner_of, less_goner, lost, unnamed_in, renamed_in};
+ghost use Rattle.plain_vol.specs.Makings.{changed, marked, Stands, goner_of, less_goner, lost, unnamed_in, renamed_in};
 
-use crate::changes::{cost, discharge, set_slot};
-use crate::entries::{with_entries, without};
-use crate::lookups::is_open;
+use crate::changes::{cost, discharge, set_slot, take_file};
+use crate::entries::{leave, replace};
+use crate::lookups::{is_open, live_file};
 use crate::outcomes::{refused, told};
 use plain_cat::{Cat, DirEnt, Fid, File, Name, NoMemory, Refusal, Reply, Slot, Uic};
-use plain_rules::{Outcome, dir_fits, entry_of, highest, in_use, inserted, live, with_version};
+use plain_rules::{Outcome, entry_of, fits_with, highest, in_use, with_version};
 use std::alloc::Global;
 
 /// A file that is gone: whose it was, how many blocks that owner is charged no more, and its sequence.
@@ -23,32 +25,30 @@ pub struct Goner {
 }
 
 /// What a file comes to whose entry is gone.
-#[derive(Drop)]
+#[derive(Clone, Copy, Debug, PartialEq)]
 pub enum Loss {
     /// There is no such file.
     Nothing,
 
-    /// It is open: this is the file, marked for delete.
-    Mark(File),
+    /// It is open, and marked for delete.
+    Mark,
 
     /// It is gone.
     Gone(Goner),
 }
 
-/// A directory without an entry, the number of the file that the entry named, and what that file comes to.
+/// An entry that is gone, and what the file comes to that it named.
 #[derive(Drop)]
 pub struct Deletion {
-    directory: File,
-    number: u32,
+    entry: DirEnt,
     loss: Loss,
 }
 
-/// A directory in which an entry has another name, and that name.
+/// An entry that is gone, and the one in its place.
 #[derive(Drop)]
 pub struct Renaming {
-    directory: File,
-    name: Name,
-    ver: u16,
+    from: DirEnt,
+    to: DirEnt,
 }
 
 // The file under a number is gone, and its owner is charged no more.
@@ -81,20 +81,18 @@ fn has_entries(file: Option<&File>) -> bool
     }
 }
 
-// What the file under a number comes to, in any catalogue with this cluster factor and these channels.
-fn loss_of(alloc: Global, cat: &Cat, n: u32, file: Option<&File>) -> Result<Loss, NoMemory>
+// What the file under a number comes to, in any catalogue with this cluster factor, these channels and this file.
+fn loss_of(cat: &Cat, n: u32, file: Option<&File>) -> Loss
     requires { IfSome (option_copied file) (λ f. cost cat.now f.clusters < 2 ^ 32) }
-    ensures { IfOk result (λ l. (c : Cat) → c.factor ≡ cat.now.factor → c.opens ≡ cat.now.opens → lost c n l ≡ unnamed c n (option_copied file.entry)) }
+    ensures { (c : Cat) → c.factor ≡ cat.now.factor → c.opens ≡ cat.now.opens → Stands c n (option_copied file.entry) → lost c n result ≡ unnamed c n (option_copied file.entry) }
 {
     let Some(file) = file else {
-        return Ok(Loss::Nothing);
+        return Loss::Nothing;
     };
     if is_open(cat, n) {
-        let mut marked = file.copy(alloc)?;
-        marked.marked = true;
-        return Ok(Loss::Mark(marked));
+        return Loss::Mark;
     }
-    Ok(Loss::Gone(goner_of(cat, file)))
+    Loss::Gone(goner_of(cat, file))
 }
 
 // What DELETE leaves, or why it deletes nothing.
@@ -109,7 +107,7 @@ fn unnamed(
     requires { Accounted cat.now }
     ensures { IfOk result (λ u. unnamed_in cat.now dir.num u ≡ delete_outcome cat.now dir name.now ver) }
 {
-    let Some(d) = live(cat, dir) else {
+    let Some(d) = live_file(cat, dir) else {
         return Ok(Err(Refusal::NoSuchFile));
     };
     if !d.dir {
@@ -125,12 +123,21 @@ fn unnamed(
     if has_entries(file) {
         return Ok(Err(Refusal::DirNotEmpty));
     }
-    let left = without(alloc, &e.name, e.ver, &d.entries)?;
     Ok(Ok(Deletion {
-        directory: with_entries(alloc, d, left)?,
-        number: e.fid.num,
-        loss: loss_of(alloc, cat, e.fid.num, file)?,
+        entry: e.copy(alloc)?,
+        loss: loss_of(cat, e.fid.num, file),
     }))
+}
+
+// Marks the file of a number for delete.
+fn mark(cat: &mut Cat, n: u32)
+    ensures { cat.new ≡ changed cat.old n marked }
+{
+    let Some(mut file) = take_file(cat, n) else {
+        return;
+    };
+    file.marked = true;
+    set_slot(cat, n, Slot::Used(file));
 }
 
 // What the file under a number comes to whose entry is gone.
@@ -139,8 +146,8 @@ fn lose(alloc: Global, mut cat: Cat, n: u32, loss: Loss) -> Result<Outcome, NoMe
 {
     match loss {
         Loss::Nothing => Ok(told(cat, Reply::EntryRemoved)),
-        Loss::Mark(file) => {
-            set_slot(&mut cat, n, Slot::Used(file));
+        Loss::Mark => {
+            mark(&mut cat, n);
             Ok(told(cat, Reply::Marked))
         }
         Loss::Gone(goner) => {
@@ -165,41 +172,25 @@ pub(crate) fn delete(
     match unnamed {
         Err(refusal) => Ok(refused(cat, refusal)),
         Ok(unnamed) => {
-            set_slot(&mut cat, dir.num, Slot::Used(unnamed.directory));
-            lose(alloc, cat, unnamed.number, unnamed.loss)
+            leave(&mut cat, dir.num, &unnamed.entry.name, unnamed.entry.ver);
+            lose(alloc, cat, unnamed.entry.fid.num, unnamed.loss)
         }
     }
 }
 
-// Whether a new entry packs into a directory beside the old ones.
-fn has_room(alloc: Global, cat: &Cat, d: &File, name: &Name, ver: u16) -> Result<bool, NoMemory>
-    ensures { IfOk result (λ b. b ≡ fits cat.now.factor (inserted (entry name.now ver nowhere) d.now.entries)) }
+// An entry with this name and version.
+fn entry_named(alloc: Global, name: &Name, ver: u16, fid: Fid) -> Result<DirEnt, NoMemory>
+    ensures { IfOk result (λ e. e ≡ entry name.now ver fid) }
 {
-    let e = DirEnt {
+    Ok(DirEnt {
         name: name.copy(alloc)?,
         ver,
-        fid: Fid { num: 0, seq: 0 },
-    };
-    let trial = inserted(alloc, e, &d.entries)?;
-    Ok(dir_fits(trial.items(), cat.factor))
-}
-
-// A directory in which an entry has another name.
-fn moved(alloc: Global, d: &File, e: &DirEnt, to: &Name, ver: u16) -> Result<File, NoMemory>
-    ensures { IfOk result (λ f. f ≡ record d.now { entries = inserted (entry to.now ver e.now.fid) (without e.now.name e.now.ver d.now.entries) }) }
-{
-    let left = without(alloc, &e.name, e.ver, &d.entries)?;
-    let new = DirEnt {
-        name: to.copy(alloc)?,
-        ver,
-        fid: e.fid,
-    };
-    let entries = inserted(alloc, new, &left)?;
-    with_entries(alloc, d, entries)
+        fid,
+    })
 }
 
 // What RENAME leaves, or why it renames nothing.
-#[tactic(auto, unfolding(plain_rules::specs::Answers::rename_outcome, plain_rules::specs::Answers::rename_refusal))]
+#[tactic(auto, using(plain_rules::proofs::Rooms::room_alike), unfolding(plain_rules::specs::Answers::rename_outcome, plain_rules::specs::Answers::rename_refusal))]
 fn renamed(
     alloc: Global,
     cat: &Cat,
@@ -211,7 +202,7 @@ fn renamed(
 ) -> Result<Result<Renaming, Refusal>, NoMemory>
     ensures { IfOk result (λ m. renamed_in cat.now dir.num m ≡ rename_outcome cat.now dir name.now ver to.now to_ver) }
 {
-    let Some(d) = live(cat, dir) else {
+    let Some(d) = live_file(cat, dir) else {
         return Ok(Err(Refusal::NoSuchFile));
     };
     if !d.dir {
@@ -231,13 +222,13 @@ fn renamed(
     if with_version(d.entries.items(), to, to_ver).is_some() {
         return Ok(Err(Refusal::DupFile));
     }
-    if !has_room(alloc, cat, d, to, to_ver)? {
+    let new = entry_named(alloc, to, to_ver, e.fid)?;
+    if !fits_with(d.entries.items(), &new, cat.factor) {
         return Ok(Err(Refusal::DirFull));
     }
     Ok(Ok(Renaming {
-        directory: moved(alloc, d, e, to, to_ver)?,
-        name: to.copy(alloc)?,
-        ver: to_ver,
+        from: e.copy(alloc)?,
+        to: new,
     }))
 }
 
@@ -257,14 +248,11 @@ pub(crate) fn rename(
     match renaming {
         Err(refusal) => Ok(refused(cat, refusal)),
         Ok(renaming) => {
-            set_slot(&mut cat, dir.num, Slot::Used(renaming.directory));
-            Ok(told(
-                cat,
-                Reply::Renamed {
-                    name: renaming.name,
-                    ver: renaming.ver,
-                },
-            ))
+            let name = renaming.to.name.copy(alloc)?;
+            let ver = renaming.to.ver;
+            let from = renaming.from;
+            replace(&mut cat, dir.num, &from.name, from.ver, renaming.to)?;
+            Ok(told(cat, Reply::Renamed { name, ver }))
         }
     }
 }

@@ -1,3 +1,5 @@
+//! What any command is answered, and the catalogue after it.
+
 ghost use Rattle.std.specs.Prelude.{◌≡◌, true, Option, IfOk};
 ghost use Rattle.plain_cat.specs.InForm.{in_form};
 ghost use Rattle.plain_rules.specs.Accounts.{Accounted};
@@ -81,9 +83,7 @@ pub fn outcome_on(
             let reply = readers::read(alloc, &cat, node, *chan, *vbn)?;
             Ok(told(cat, reply))
         }
-        Cmd::WriteBlock { chan, vbn, text } => {
-            channels::write(alloc, cat, node, *chan, *vbn, text)
-        }
+        Cmd::WriteBlock { chan, vbn, text } => { channels::write(cat, node, *chan, *vbn, text) }
         Cmd::QuotaSet { owner, quota, over } => {
             quotas::quota_set(alloc, cat, *owner, *quota, *over)
         }

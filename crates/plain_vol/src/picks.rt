@@ -1,3 +1,5 @@
+//! File numbers that a new file or a new header may take.
+
 ghost use Rattle.std.specs.Prelude.{◌≡◌, ◌≤◌, ◌-◌, length};
 ghost use Rattle.std.specs.List.{count_by, range_with_len, sum_by};
 ghost use Rattle.plain_rules.specs.Lookups.{is_leaked, is_free_number, extra_in, free_count, has_free_number};

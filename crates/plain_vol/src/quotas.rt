@@ -1,3 +1,5 @@
+//! QUOTASET.
+
 ghost use Rattle.std.specs.Prelude.{◌≡◌, IfOk};
 ghost use Rattle.plain_rules.specs.Answers.{quota_set_outcome};
 

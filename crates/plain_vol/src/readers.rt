@@ -1,3 +1,5 @@
+//! The commands that change nothing: LOOKUP, LIST, STAT, READ and QUOTASHOW.
+
 ghost use Rattle.std.specs.Prelude.{◌≡◌, ◌*◌, ◌<◌, ◌^◌, IfOk};
 ghost use Rattle.base_words.specs.Tables.{zeros};
 ghost use Rattle.plain_rules.specs.Accounts.{Accounted};

@@ -1,3 +1,5 @@
+//! Whether two replies are equal.
+
 ghost use Rattle.std.specs.Prelude.{◌≡◌, ◌↔◌, IsTrue};
 
 use plain_cat::{DirEnt, Reply};

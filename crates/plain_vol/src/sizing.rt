@@ -1,21 +1,26 @@
+//! EXTEND and TRUNC.
+
 ghost use Rattle.std.specs.Prelude.{◌≡◌, ◌≤◌, ◌<◌, ◌+◌, ◌*◌, ◌^◌, ◌-◌, IfOk};
-ghost use Rattle.plain_rules.specs.Lookups.{header_most};
+ghost use Rattle.plain_rules.specs.Lookups.{header_most, file_at};
 ghost use Rattle.plain_rules.specs.Accounts.{Accounted};
 ghost use Rattle.plain_rules.specs.Changes.{blocks_of, grown, cut};
 ghost use Rattle.plain_rules.specs.Answers.{over_draft, is_kept, extend_outcome, trunc_outcome};
-ghost use Rattle.plain_vol.specs.Makings.{grown_in, cut_in};
+ghost use Rattle.plain_vol.specs.Makings.{changed, MayGrow, grown_in, cut_in};
 
-use crate::changes::{charge, discharge, in_clusters, set_slot};
+use crate::changes::{charge, discharge, in_clusters, set_slot, take_file};
 use crate::headers::{FILE_MOST, HEADER_MOST, needs_header};
-use crate::outcomes::refused;
-use plain_cat::{Cat, Fid, File, NoMemory, QuotaRow, Refusal, Reply, Slot};
-use plain_rules::{Outcome, free_clusters, live, row_of};
+use crate::lookups::live_file;
+use crate::outcomes::{refused, told};
+use plain_cat::{Cat, Fid, File, NoMemory, QuotaRow, Refusal, Reply, Slot, Uic};
+use plain_rules::{Outcome, free_clusters, row_of};
 use std::alloc::Global;
 
-/// A file of another size, how many blocks it has more or fewer than before, and how many it has.
-#[derive(Drop)]
+/// Another size of a file: the clusters that it has more, or all that it keeps, how many blocks its owner has more or fewer, and
+/// how many blocks the file has.
+#[derive(Clone, Copy, Debug, PartialEq)]
 pub struct Sizing {
-    file: File,
+    clusters: u32,
+    owner: Uic,
     change: u32,
     size: u32,
 }
@@ -44,58 +49,64 @@ fn blocks_of(cat: &Cat, file: &File) -> u32
     cat.factor * file.clusters
 }
 
-// The file with k clusters more.
-fn grown(alloc: Global, cat: &Cat, file: &File, k: u32) -> Result<File, NoMemory>
-    requires clusters { file.now.clusters + k < 2 ^ 32 }
-    requires blocks { cat.now.factor * file.now.clusters + 1 < 2 ^ 32 }
-    ensures { IfOk result (λ f. f ≡ grown cat.now file.now k) }
+// Gives a file k clusters more.
+fn grow_in(cat: &Cat, file: &mut File, k: u32)
+    requires clusters { file.old.clusters + k < 2 ^ 32 }
+    requires blocks { blocks_of cat.now file.old + 1 < 2 ^ 32 }
+    ensures { file.new ≡ grown cat.now file.old k }
 {
-    let mut larger = file.copy(alloc)?;
-    larger.clusters = file.clusters + k;
     if file.mark == 0 {
-        larger.mark = blocks_of(cat, file) + 1;
+        file.mark = blocks_of(cat, file) + 1;
     }
-    Ok(larger)
+    file.clusters += k;
 }
 
-// The larger file of EXTEND, or why it does not grow.
+// Gives the file of a number k clusters more.
+fn grow(cat: &mut Cat, n: u32, k: u32)
+    requires { MayGrow cat.old k (file_at cat.old n) }
+    ensures { cat.new ≡ changed cat.old n (λ f. grown cat.old f k) }
+{
+    let Some(mut file) = take_file(cat, n) else {
+        return;
+    };
+    grow_in(cat, &mut file, k);
+    set_slot(cat, n, Slot::Used(file));
+}
+
+// How EXTEND makes a file larger, or why it does not.
 #[tactic(auto, unfolding(plain_rules::specs::Answers::extend_outcome, plain_rules::specs::Answers::extend_refusal))]
-fn larger(
-    alloc: Global,
-    cat: &Cat,
-    fid: Fid,
-    blocks: u32,
-    new: Option<u32>,
-) -> Result<Result<Sizing, Refusal>, NoMemory>
+fn larger(cat: &Cat, fid: Fid, blocks: u32, new: Option<u32>) -> Result<Sizing, Refusal>
     requires cat { Accounted cat.now }
     requires blocks { blocks ≤ 65536 }
-    ensures grown { IfOk result (λ s. grown_in cat.now fid.num s ≡ extend_outcome cat.now fid blocks new) }
-    ensures small { IfOk result (λ s. IfOk s (λ s. s.change ≤ 16 * header_most)) }
+    ensures grown { grown_in cat.now fid.num result ≡ extend_outcome cat.now fid blocks new }
+    ensures small { IfOk result (λ s. s.change ≤ 16 * header_most) }
+    ensures fits { IfOk result (λ s. MayGrow cat.now s.clusters (file_at cat.now fid.num)) }
 {
-    let Some(file) = live(cat, fid) else {
-        return Ok(Err(Refusal::NoSuchFile));
+    let Some(file) = live_file(cat, fid) else {
+        return Err(Refusal::NoSuchFile);
     };
     if is_kept(fid.num, file) {
-        return Ok(Err(Refusal::NoPriv));
+        return Err(Refusal::NoPriv);
     }
     let k = in_clusters(cat, blocks);
     if HEADER_MOST < k || (FILE_MOST as u64) < file.clusters as u64 + k as u64 {
-        return Ok(Err(Refusal::FileLimit));
+        return Err(Refusal::FileLimit);
     }
     if over_draft(row_of(cat.quota.items(), file.owner), cat.factor * k) {
-        return Ok(Err(Refusal::ExQuota));
+        return Err(Refusal::ExQuota);
     }
     if needs_header(file.clusters, k) && new.is_none() {
-        return Ok(Err(Refusal::IndexFull));
+        return Err(Refusal::IndexFull);
     }
     if free_clusters(cat) < k {
-        return Ok(Err(Refusal::DeviceFull));
+        return Err(Refusal::DeviceFull);
     }
-    Ok(Ok(Sizing {
-        file: grown(alloc, cat, file, k)?,
+    Ok(Sizing {
+        clusters: k,
+        owner: file.owner,
         change: cat.factor * k,
         size: cat.factor * (file.clusters + k),
-    }))
+    })
 }
 
 // EXTEND, where a new header may take the number
@@ -110,38 +121,41 @@ pub(crate) fn extend(
     requires blocks { blocks ≤ 65536 }
     ensures { IfOk result (λ o. o ≡ extend_outcome cat fid blocks new) }
 {
-    let sizing = larger(alloc, &cat, fid, blocks, new)?;
-    match sizing {
+    match larger(&cat, fid, blocks, new) {
         Err(refusal) => Ok(refused(cat, refusal)),
         Ok(sizing) => {
-            charge(alloc, &mut cat, sizing.file.owner, sizing.change)?;
-            set_slot(&mut cat, fid.num, Slot::Used(sizing.file));
-            Ok(Outcome {
-                reply: Reply::Size(sizing.size),
-                after: cat,
-            })
+            charge(alloc, &mut cat, sizing.owner, sizing.change)?;
+            grow(&mut cat, fid.num, sizing.clusters);
+            Ok(told(cat, Reply::Size(sizing.size)))
         }
     }
 }
 
-// The file cut to k clusters.
-fn cut(alloc: Global, cat: &Cat, file: &File, k: u32) -> Result<File, NoMemory>
+// Cuts a file to k clusters.
+fn cut_in(cat: &Cat, file: &mut File, k: u32)
     requires { cat.now.factor * k + 1 < 2 ^ 32 }
-    ensures { IfOk result (λ f. f ≡ cut cat.now file.now k) }
+    ensures { file.new ≡ cut cat.now file.old k }
 {
     let blocks = cat.factor * k;
-    Ok(File {
-        seq: file.seq,
-        owner: file.owner,
-        dir: file.dir,
-        clusters: k,
-        mark: file.mark.min(blocks + 1),
-        end: file.end.min(blocks + 1),
-        byte: if blocks + 1 < file.end { 0 } else { file.byte },
-        marked: file.marked,
-        written: file.written.front(alloc, blocks as usize)?,
-        entries: file.entries.copy(alloc)?,
-    })
+    if blocks + 1 < file.end {
+        file.byte = 0;
+    }
+    file.end = file.end.min(blocks + 1);
+    file.mark = file.mark.min(blocks + 1);
+    file.clusters = k;
+    file.written.truncate(blocks as usize);
+}
+
+// Cuts the file of a number to k clusters.
+fn cut(cat: &mut Cat, n: u32, k: u32)
+    requires { cat.old.factor * k + 1 < 2 ^ 32 }
+    ensures { cat.new ≡ changed cat.old n (λ f. cut cat.old f k) }
+{
+    let Some(mut file) = take_file(cat, n) else {
+        return;
+    };
+    cut_in(cat, &mut file, k);
+    set_slot(cat, n, Slot::Used(file));
 }
 
 // How many blocks a file has fewer with k clusters.
@@ -153,31 +167,28 @@ fn blocks_less(cat: &Cat, file: &File, k: u32) -> u32
     cat.factor * (file.clusters - k)
 }
 
-// The smaller file of TRUNC, or why it is not cut.
+// How TRUNC cuts a file, or why it does not.
 #[tactic(auto, unfolding(plain_rules::specs::Answers::trunc_outcome))]
-fn smaller(
-    alloc: Global,
-    cat: &Cat,
-    fid: Fid,
-    blocks: u32,
-) -> Result<Result<Sizing, Refusal>, NoMemory>
+fn smaller(cat: &Cat, fid: Fid, blocks: u32) -> Result<Sizing, Refusal>
     requires cat { Accounted cat.now }
     requires blocks { blocks ≤ 65536 }
-    ensures { IfOk result (λ s. cut_in cat.now fid.num s ≡ trunc_outcome cat.now fid blocks) }
+    ensures cut { cut_in cat.now fid.num result ≡ trunc_outcome cat.now fid blocks }
+    ensures small { IfOk result (λ s. cat.now.factor * s.clusters + 1 < 2 ^ 32) }
 {
-    let Some(file) = live(cat, fid) else {
-        return Ok(Err(Refusal::NoSuchFile));
+    let Some(file) = live_file(cat, fid) else {
+        return Err(Refusal::NoSuchFile);
     };
     if is_kept(fid.num, file) {
-        return Ok(Err(Refusal::NoPriv));
+        return Err(Refusal::NoPriv);
     }
     let k = file.clusters.min(in_clusters(cat, blocks));
     let change = blocks_less(cat, file, k);
-    Ok(Ok(Sizing {
-        file: cut(alloc, cat, file, k)?,
+    Ok(Sizing {
+        clusters: k,
+        owner: file.owner,
         change,
         size: cat.factor * k,
-    }))
+    })
 }
 
 // TRUNC
@@ -186,16 +197,12 @@ pub(crate) fn trunc(alloc: Global, mut cat: Cat, fid: Fid, blocks: u32) -> Resul
     requires blocks { blocks ≤ 65536 }
     ensures { IfOk result (λ o. o ≡ trunc_outcome cat fid blocks) }
 {
-    let sizing = smaller(alloc, &cat, fid, blocks)?;
-    match sizing {
+    match smaller(&cat, fid, blocks) {
         Err(refusal) => Ok(refused(cat, refusal)),
         Ok(sizing) => {
-            discharge(alloc, &mut cat, sizing.file.owner, sizing.change)?;
-            set_slot(&mut cat, fid.num, Slot::Used(sizing.file));
-            Ok(Outcome {
-                reply: Reply::Size(sizing.size),
-                after: cat,
-            })
+            discharge(alloc, &mut cat, sizing.owner, sizing.change)?;
+            cut(&mut cat, fid.num, sizing.clusters);
+            Ok(told(cat, Reply::Size(sizing.size)))
         }
     }
 }

@@ -1,3 +1,5 @@
+//! Directory blocks with known bytes: reading, order, and the first fault.
+
 ghost use Rattle.std.specs.Prelude.{◌≡◌, IfOk};
 ghost use Rattle.fx_dir.specs.Entries.{same, has};
 ghost use Rattle.fx_dir.specs.Writing.{IsInForm};

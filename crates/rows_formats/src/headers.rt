@@ -1,3 +1,5 @@
+//! File headers with known bytes: fields, pointers of each format, and the first fault.
+
 ghost use Rattle.std.specs.Prelude.{◌≤◌, length, IsTrue, ◌≡◌, false};
 ghost use Rattle.fx_header.specs.Pointers.{AreRuns, blocks_in};
 

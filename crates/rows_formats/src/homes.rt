@@ -1,3 +1,5 @@
+//! Home blocks and storage control blocks with known words.
+
 use base_words::{put_word, set_sum, sum_of, word_at};
 use fx_home::{
     Home, HomeFault, Scb, ScbFault, home_block, read_home, read_scb, scb_block, slot_lbn,

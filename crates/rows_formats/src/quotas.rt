@@ -1,3 +1,5 @@
+//! Quota rows with known bytes.
+
 use fx_quota::{Row, clear_row, row, set_row};
 
 /// The second row of a volume's quota file: owner [1,4], who uses 13 of 1,088.

@@ -1,3 +1,5 @@
+//! Sources and sinks of text, with calls that fail or take a part.
+
 use fx_text::{
     MemIn, MemOut, NoMemory, StdIn, StdOut, TextFault, TextIn, Word, read_all, write_all,
 };

@@ -1,3 +1,5 @@
+//! Sums of words.
+
 use base_words::{Block, long_at, put_long, put_word, set_sum, sum_of, word_at};
 use std::test::Fail;
 

@@ -1,12 +1,13 @@
 //! Calls of the program's call over files, and the files.
 
-use blk_drive::{FileImage, NoMemory};
+use blk_drive::NoMemory;
+use blk_files::{FileImage, SystemFile};
 use clus_top::exit_call;
 use edge_files::{Access, Held, LockFile, SafeOut, image_at};
 use fx_text::{MemIn, MemOut};
 use std::alloc::Global;
 use std::fs::OpenFile;
-use std::io::{Read, Seek, Write};
+use std::os::unix::fs::FileExt;
 use std::path::PathBuf;
 use std::process::{Abort, ExitCode};
 use std::rt::Files;
@@ -33,9 +34,9 @@ fn line_of(alloc: Global, text: &str) -> Result<Vec<String>, NoMemory> {
 }
 
 /// Makes the call with these words and this script over an image that is held.
-pub fn call_held<G: Read + Write + Seek + OpenFile + Drop, F: OpenFile + Drop>(
+pub fn call_held<G: FileExt + OpenFile + Drop, F: OpenFile + Drop>(
     alloc: Global,
-    image: FileImage<G>,
+    image: FileImage<SystemFile<G>>,
     due: Option<F>,
     words: &str,
     script: &str,
@@ -65,7 +66,7 @@ pub fn call<R: Files + AllocGlobal>(
     script: &str,
 ) -> Result<Called, NoMemory>
 where
-    R::File: LockFile,
+    R::File: FileExt + LockFile,
 {
     let Held { image, due } = image_at(rt, path, access)?;
     call_held(rt.alloc(), image, due, words, script)

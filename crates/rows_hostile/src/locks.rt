@@ -11,11 +11,12 @@ use std::test::Fail;
 use std::{fs, io};
 
 // Each job of `vmsclus` that may write, with a script of which every command writes.
-const JOBS: [&str; 6] = [
+const JOBS: [&str; 7] = [
     "run",
     "run --rebuild",
     "soak 1",
     "rebuild",
+    "repair",
     "store 12 1",
     "init 1 32 OTHER",
 ];

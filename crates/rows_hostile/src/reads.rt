@@ -16,6 +16,7 @@ const JOBS: &[(&[&str], &str)] = &[
     (&["soak", "1"], ""),
     (&["analyze"], ""),
     (&["rebuild"], ""),
+    (&["repair"], ""),
     (&["records", "3", "3"], ""),
     (&["store", "12", "1"], "HELLO\n"),
     (&["init", "1", "32", "TINY"], ""),

@@ -153,6 +153,8 @@ impl<'a, I: ImageDev> ImageDev for Counted<'a, I> {
 
     ghost faults = { λ c. I.faults c.image };
 
+    ghost lost = { λ c. I.lost c.image };
+
     ghost counted = { λ c. I.counted c.image };
 
     fn blocks(&mut self) -> Result<u32, DevFault> {

@@ -1,3 +1,5 @@
+//! Block caches: what is found, what goes first, what is forgotten.
+
 use node_cache::{LockName, NodeCache};
 use std::test::Fail;
 

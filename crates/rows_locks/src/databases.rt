@@ -187,7 +187,7 @@ fn a_recovery_writes_the_block_of_a_copy_alone(rt: HostRuntime) -> Result<(), Fa
     let db = held(rt.alloc(), name)?;
     let mut copy = db.copy(rt.alloc())?;
     if copy.mode(name, NODE1) == Some(Mode::PW) {
-        copy.recover(name, [4; 16]);
+        copy.recover(name, [4; 16], false);
     }
     assert_eq!(rt; copy.value(name), ([4; 16], false));
     assert!(rt;

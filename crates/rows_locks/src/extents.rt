@@ -1,3 +1,5 @@
+//! Stocks of clusters and file numbers.
+
 use extent_cache::{Extents, Taken};
 use std::test::Fail;
 

@@ -2,8 +2,8 @@
 
 use base_words::Block;
 use lock_db::LockName;
-use op_freeing::{blocks_for, push_freeing, rising};
 use op_law::{NoMemory, Numbers, PlanWrite, Writes};
+use op_steps::{blocks_for, push_freeing, rising};
 use plain_cat::Stage;
 use std::alloc::Global;
 use std::test::Fail;

@@ -1,6 +1,6 @@
 //! Worked rows of the commands, each alone on a small volume: the locks that it takes, the blocks at which it looks, its writes in order,
 //! its ask and its reply. The crate has tests alone. They stand over `xqp_set`, and so over the crate of each command, and over
-//! `op_freeing`; and, over `core_space`, of the search for free space on bitmaps and the rules by which a node fills its stock, gives it back,
+//! `op_steps`; and, over `core_space`, of the search for free space on bitmaps and the rules by which a node fills its stock, gives it back,
 //! and searches all free space.
 //!
 //! `alone` runs a command that no channel serves, `on_channel` one of a channel that has a file open, and `plans` compares what they come

@@ -1,3 +1,5 @@
+//! Registers and channels of a node along its answers.
+
 use plain_cat::{
     Cmd, Fid, FileRef, Kills, Line, LineCmd, Lines, Mode, Name, NoMemory, Plays, Refusal, Reply,
     Script,

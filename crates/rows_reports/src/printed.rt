@@ -1,3 +1,5 @@
+//! Commands, replies and histories as they are printed.
+
 use plain_cat::{
     ByteBlock, Cmd, DirEnt, DirEnts, Entry, Fid, Mended, Name, NumberList, Refusal, Reply, Stage,
     Uic,

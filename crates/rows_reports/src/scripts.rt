@@ -1,3 +1,5 @@
+//! Scripts: the first bad line, each limit, and what lines say.
+
 use plain_cat::{Fid, FileRef, Kill, KillAt, LineCmd, Mode, NoMemory, Uic};
 use run_script::{ScriptFault, read_script};
 use std::alloc::Global;

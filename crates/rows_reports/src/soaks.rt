@@ -1,3 +1,5 @@
+//! The first commands of a soak.
+
 use plain_cat::{Cmd, FileRef, LineCmd, NoMemory};
 use plain_texts::push_command;
 use run_script::soak;

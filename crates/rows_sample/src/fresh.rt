@@ -1,3 +1,5 @@
+//! The catalogue of a small fresh volume, made by hand.
+
 ghost use Rattle.std.specs.Prelude.{◌≡◌, ◌++◌, ◌∷◌, [], ◌+◌, ◌*◌, ◌^◌, ◌<◌, None, false, IfOk, OnOk, replicate};
 ghost use Rattle.plain_cat.specs.declared.cat.Slot.TheVariants.{Free};
 ghost use Rattle.rows_sample.specs.Fresh.{main_entry, main_entries, system_file, plain_file, directory, system_files, quota_rows, fresh};

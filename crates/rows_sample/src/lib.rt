@@ -11,7 +11,7 @@
 //! ```
 //!
 //! The laws are examples of deaths on that catalogue. Each is the contract of a function that does nothing. No contract says what is on the
-//! small volume, and no program uses this crate: the tests of `rows_plain`, `rows_making`, `rows_ops` and `rows_reports` do.
+//! small volume, and no program uses this crate: the tests of `rows_plain`, `rows_volumes`, `rows_ops` and `rows_reports` do.
 #![tactic(auto)]
 
 mod death_laws;

@@ -1,3 +1,5 @@
+//! Volumes with findings of every kind, in their order.
+
 use crate::findings::written;
 use base_words::{Block, put_bytes, put_word, set_sum};
 use fx_home::{Home, Scb, home_block, scb_block};

@@ -1,3 +1,5 @@
+//! Catalogues of directories: second entries, lost files, entries of no file.
+
 use plain_cat::{
     Blocks, Cat, Channels, DirEnt, DirEnts, Fid, File, Files, Flags, Name, NoMemory, QuotaRows,
     Slot, Uic,

@@ -1,3 +1,5 @@
+//! Files of two headers, and what can be wrong with their chain.
+
 use crate::analyses::{block, change, header, sound};
 use crate::findings::written;
 use base_words::{Block, put_bytes, put_long, set_sum};

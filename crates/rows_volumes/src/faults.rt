@@ -1,3 +1,5 @@
+//! Fatal findings: which one is told first.
+
 ghost use Rattle.std.specs.Prelude.{length};
 ghost use Rattle.fx_home.specs.Homes.{IsWithinLimits};
 ghost use Rattle.vol_faults.specs.Conditions.{IsSize};

@@ -1,3 +1,5 @@
+//! Findings as they are printed.
+
 use fx_header::HeaderFault;
 use fx_home::{HomeFault, ScbFault};
 use plain_cat::{Name, NoMemory, Uic};

@@ -1,3 +1,5 @@
+//! A sound volume with one byte changed: what is found first.
+
 use crate::faults::{Change, SMALL, put_change, small, text_of};
 use base_words::Block;
 use fx_home::home_block;

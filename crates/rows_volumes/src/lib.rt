@@ -3,7 +3,17 @@
 //! Over `vol_parts`, `vol_faults`, `vol_analyze`, `vol_records` and `vol_sound`. Lines are stored too, on an image of which each write fails once.
 //!
 //! It promises nothing: its tests compare findings and their texts.
+//!
+//! Worked rows of making and mending volumes, and a law: the worked catalogue of `rows_sample` is that of a fresh volume.
+//!
+//! Over `vol_init` and `vol_rebuild`.
+//!
+//! It promises nothing else: its tests compare bytes, findings and counts.
 #![tactic(auto)]
+
+mod laws;
+
+pub use laws::the_worked_volume_is_fresh;
 
 #[cfg(test)]
 mod analyses;
@@ -17,6 +27,12 @@ mod faults;
 mod findings;
 #[cfg(test)]
 mod firsts;
+#[cfg(test)]
+mod layouts;
+#[cfg(test)]
+mod making;
+#[cfg(test)]
+mod mending;
 #[cfg(test)]
 mod parts;
 #[cfg(test)]

@@ -1,3 +1,5 @@
+//! The parts of a volume, and the order of quota rows.
+
 ghost use Rattle.std.specs.Prelude.{◌≤◌, length};
 
 use base_words::{Block, put_bytes, put_long, put_word, set_sum};

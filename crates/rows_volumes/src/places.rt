@@ -1,3 +1,5 @@
+//! Lost files and the room for them in `[SYSLOST]`.
+
 use plain_cat::{
     Blocks, Cat, Channels, DirEnt, DirEnts, Fid, File, Files, Flags, Name, NoMemory, QuotaRows,
     Slot, Uic,

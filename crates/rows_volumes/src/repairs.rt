@@ -1,3 +1,5 @@
+//! What a repair keeps of damaged volumes, and what is beyond it.
+
 ghost use Rattle.fx_home.specs.Homes.{IsWithinLimits};
 
 use crate::analyses::change;

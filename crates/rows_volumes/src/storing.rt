@@ -1,3 +1,5 @@
+//! Lines that are stored in a file, and what refuses them.
+
 use crate::analyses::{block, header, sound};
 use base_words::{Block, put_bytes, put_long, put_word, set_sum};
 use blk_drive::{Fail, MemImage, Mirror};

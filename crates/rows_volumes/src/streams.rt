@@ -1,3 +1,5 @@
+//! Streams of files: their end, and zeros from the mark on.
+
 use crate::analyses::{change, faulty};
 use crate::chains::listed;
 use base_words::Block;

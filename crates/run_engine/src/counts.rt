@@ -1,3 +1,5 @@
+//! How many blocks the nodes have read, and how many they found in their caches.
+
 ghost use Rattle.std.specs.Prelude.{◌≡◌};
 ghost use Rattle.run_engine.specs.Summaries.{all_reads, all_hits};
 

@@ -1,3 +1,5 @@
+//! Why a run stopped before its end.
+
 use core_step::TurnFault;
 
 /// Why a run stopped before every node was over.

@@ -1,3 +1,5 @@
+//! How many clusters are free at the end of a run.
+
 ghost use Rattle.std.specs.Prelude.{◌≡◌, ◌+◌, ◌/◌, ◌<◌, ℕ, length};
 ghost use Rattle.plain_cat.specs.declared.cat.Cat.{Cat};
 ghost use Rattle.plain_rules.specs.Lookups.{free_clusters};

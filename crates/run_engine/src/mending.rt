@@ -1,3 +1,5 @@
+//! The drive of a run that has ended is mended.
+
 ghost use Rattle.std.specs.Prelude.{◌≡◌, ◌≤◌, Some, length, map};
 ghost use Rattle.base_words.specs.Faults.{Rose};
 ghost use Rattle.base_words.specs.Fields.{AreWholeBlocks};

@@ -1,3 +1,5 @@
+//! The report of a history: its lines, and the last one with its sums.
+
 ghost use Rattle.std.specs.Prelude.{◌≡◌, ◌++◌, IfOk, OnOk, count_by, map};
 ghost use Rattle.core_state.specs.Worlds.{shown};
 ghost use Rattle.run_engine.specs.Reports.{is_answer, is_death, counts_text, closing_text, lines_bytes, report_bytes};

@@ -1,3 +1,5 @@
+//! Turns in rotation, until every node is over.
+
 ghost use Rattle.std.specs.Prelude.{◌≡◌, ◌⊎◌, ◌+◌, ◌-◌, ◌≤◌, Some, None, Ok, Err, IfSome, OnOk, length, false};
 ghost use Rattle.base_words.specs.Faults.{Rose};
 ghost use Rattle.core_state.specs.Worlds.{IsOfWorld};

@@ -1,3 +1,5 @@
+//! A whole run: the plays of the schedule, and then turns in rotation.
+
 ghost use Rattle.std.specs.Prelude.{◌≡◌, ◌≤◌, ◌⊎◌, true, false, Err, OnOk, OnErr, All};
 ghost use Rattle.base_words.specs.Faults.{Rose};
 ghost use Rattle.plain_rules.specs.Own.{Whole};

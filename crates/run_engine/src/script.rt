@@ -1,3 +1,5 @@
+//! A script, read whole from its source.
+
 ghost use Rattle.std.specs.Prelude.{IfOk, IfErr};
 ghost use Rattle.plain_cat.specs.InForm.{InForm};
 ghost use Rattle.run_engine.specs.Inputs.{OfScript};

@@ -1,3 +1,5 @@
+//! How a call of the program ended: its status and the number of it.
+
 ghost use Rattle.std.specs.Prelude.{◌≡◌};
 
 use blk_drive::ImageDev;

@@ -1,3 +1,5 @@
+//! Laws of a run that stops: its drive mends as a catalogue with every answered command.
+
 ghost use Rattle.run_engine.specs.TornLaws.{RunsCanStop, TornWorldsCanStop, TornRunsCanStop};
 
 /// A run can stop wherever it is: its drive mends as the catalogue that is left. It leaves one to which its history replays, with the

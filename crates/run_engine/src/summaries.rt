@@ -1,3 +1,5 @@
+//! The summary of a soak: its sums.
+
 ghost use Rattle.std.specs.Prelude.{◌≡◌, ◌++◌, IfOk, OnOk, count_by};
 ghost use Rattle.plain_rules.specs.Stages.{is_refusal};
 ghost use Rattle.run_engine.specs.Summaries.{is_refused, is_carried_out, counted, outcomes_text, blocks_text, soak_text, summary_bytes};

@@ -1,3 +1,5 @@
+//! What is printed at the end of a call, and how it reaches the output.
+
 ghost use Rattle.std.specs.Prelude.{◌≡◌, ◌++◌, ◌⊎◌, IfOk, OnOk, decimal};
 ghost use Rattle.std.specs.Io.KnownBytes.{Appends};
 ghost use Rattle.base_words.specs.Faults.{Rose};

@@ -1,3 +1,5 @@
+//! Laws of worlds: over, stopped or mended, they lead to one catalogue.
+
 ghost use Rattle.run_engine.specs.OverLaws.{OverWorldsMend, StoppedWorldsMend, HaltedIsOne, RebuiltIsMended, StepsKeepTheRules};
 
 /// Once every node of a world is over, so that its drive spells the catalogue to which the history leads with nothing outside at any

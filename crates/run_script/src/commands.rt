@@ -1,3 +1,5 @@
+//! The command of a line, with its operands.
+
 ghost use Rattle.std.specs.Prelude.{◌≡◌, ◌<◌, Some, IfOk, IfSome};
 ghost use Rattle.plain_cat.specs.declared.script.Line.{Line as NodeCommand};
 ghost use Rattle.run_script.specs.Grammar.{IsNodeCommand};

@@ -1,3 +1,5 @@
+//! The line of a death.
+
 ghost use Rattle.run_script.specs.Lines.{words_of};
 ghost use Rattle.run_script.specs.Steps.{Gives, moment_of, death_of};
 

@@ -1,3 +1,5 @@
+//! Why a script or a line of it is refused.
+
 use std::alloc::AllocError;
 use thiserror::Error;
 

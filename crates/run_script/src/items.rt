@@ -1,3 +1,5 @@
+//! What a line says: how many nodes, a schedule, a death or a command.
+
 ghost use Rattle.std.specs.Prelude.{◌≡◌, ◌++◌, [], ◌∷◌, OnOk};
 ghost use Rattle.run_script.specs.Grammar.{is_skipped};
 ghost use Rattle.run_script.specs.Lines.{words_of};

@@ -1,3 +1,5 @@
+//! The kinds of commands, by their words.
+
 ghost use Rattle.std.specs.Prelude.{◌≡◌};
 ghost use Rattle.run_script.specs.Steps.{open_kind, named_kind, arity};
 

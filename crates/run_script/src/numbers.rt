@@ -1,3 +1,5 @@
+//! Numbers, registers, channels and nodes in a script.
+
 ghost use Rattle.std.specs.Prelude.{◌≡◌, ◌≤◌, ◌⊎◌, IfOk};
 ghost use Rattle.run_script.specs.Steps.{has_odd_start, number_of, register_of, count_of, channel_of, quota_of, Gives};
 

@@ -1,3 +1,5 @@
+//! The operands of commands: references, names, owners, modes and texts.
+
 ghost use Rattle.std.specs.Prelude.{◌≡◌, IfOk, MatchOption, None, Some};
 ghost use Rattle.plain_cat.specs.InForm.{is_text_char};
 ghost use Rattle.std.specs.List.{list_all};

@@ -1,3 +1,5 @@
+//! Parts of a text that is cut at some bytes.
+
 ghost use Rattle.std.specs.Prelude.{◌≡◌, MatchOption, None, length};
 ghost use Rattle.run_script.specs.Lines.{parts};
 ghost use Rattle.run_script.specs.Steps.{part_of, behind};

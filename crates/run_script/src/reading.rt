@@ -1,3 +1,5 @@
+//! A whole script, read line by line.
+
 ghost use Rattle.std.specs.Prelude.{◌≡◌, ◌⊎◌, ℕ, None, Ok, Err, IfOk};
 ghost use Rattle.plain_cat.specs.declared.script.Script.{Script};
 ghost use Rattle.run_script.specs.Lines.{lines_of};

@@ -1,3 +1,5 @@
+//! The schedule of a script: plays of nodes in a row.
+
 ghost use Rattle.run_script.specs.Lines.{words_of};
 ghost use Rattle.run_script.specs.Steps.{Gives, run_of, schedule_of};
 

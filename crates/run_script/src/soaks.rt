@@ -1,3 +1,5 @@
+//! Soaks: scripts that are drawn from a number.
+
 ghost use Rattle.std.specs.Prelude.{◌≡◌, ◌/◌, ◌≤◌, IfOk};
 ghost use Rattle.plain_cat.specs.InForm.{InForm};
 ghost use Rattle.run_script.specs.Soaks.{next_state, file_name, soak_command, soak_script};

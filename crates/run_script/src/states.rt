@@ -1,3 +1,5 @@
+//! What is read of a script so far, and the limits that each line has to keep.
+
 ghost use Rattle.std.specs.Prelude.{◌≡◌, ◌+◌, ◌++◌, None, Some, OnOk, length, replicate, leb};
 ghost use Rattle.std.specs.List.{list_all};
 ghost use Rattle.run_script.specs.declared.items.Run.{Run};

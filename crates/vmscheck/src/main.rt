@@ -21,6 +21,7 @@ use fx_text::{StdIn, StdOut, TextIn, TextOut, Word, write_all};
 use log_check::{CheckStatus, check_log};
 use plain_cat::NoMemory;
 use std::alloc::Global;
+use std::os::unix::fs::FileExt;
 use std::process::ExitCode;
 use std::rt::{Env, Files};
 use std::{fs, io};
@@ -72,7 +73,7 @@ fn refused<R: Files + Print + AllocGlobal>(rt: &R) -> Result<ExitCode, NoMemory>
 // Opens both images and the report, of which `-` is standard input, and makes the call.
 fn opened<R: Env + Files + Input + Print + AllocGlobal>(rt: &R) -> Result<ExitCode, NoMemory>
 where
-    R::File: LockFile,
+    R::File: FileExt + LockFile,
 {
     let line = line_of(rt)?;
     let [before, after, log] = line.as_slice() else {

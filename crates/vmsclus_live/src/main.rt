@@ -17,6 +17,7 @@ use fx_text::{StdIn, StdOut, TextIn};
 use live_run::{Called, OpenGate, exit_call, no_memory};
 use plain_cat::NoMemory;
 use std::fs::OpenFile;
+use std::os::unix::fs::FileExt;
 use std::process::ExitCode;
 use std::rt::{Env, Files};
 use std::sync::Wait;
@@ -53,7 +54,7 @@ fn opened<R: Threads + Wait + Sync + Env + Files + Input + Print + AllocGlobal>(
     rt: &R,
 ) -> Result<ExitCode, NoMemory>
 where
-    R::File: LockFile + Send,
+    R::File: FileExt + LockFile + Send,
 {
     let line = line_of(rt)?;
     match line.as_slice() {

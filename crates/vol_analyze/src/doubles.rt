@@ -1,3 +1,5 @@
+//! Findings of entries that stand in two blocks of a directory.
+
 ghost use Rattle.std.specs.Prelude.{◌≡◌, None, nat_lt, map, filter, length, IfOk};
 ghost use Rattle.fx_home.specs.Homes.{IsWithinLimits};
 ghost use Rattle.fx_dir.specs.Lists.{joined};

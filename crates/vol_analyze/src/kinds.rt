@@ -1,3 +1,5 @@
+//! Findings that are not fatal, kind by kind.
+
 ghost use Rattle.std.specs.Prelude.{◌≡◌, ◌≤◌, ◌++◌, ◌<◌, ℕ, map, length, IfOk, OnOk};
 ghost use Rattle.std.specs.List.{count_by};
 ghost use Rattle.plain_cat.specs.declared.cat.Slot.{Slot};

@@ -1,3 +1,5 @@
+//! Findings as they are printed.
+
 ghost use Rattle.std.specs.Prelude.{◌≡◌, ◌++◌, OnOk, OnErr, codes};
 ghost use Rattle.vol_analyze.specs.Texts.{home_fault_text, header_fault_text, scb_fault_text, numbered, wrong_at, owned, entry_in, usage_off, finding_text};
 

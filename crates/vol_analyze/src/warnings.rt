@@ -1,3 +1,5 @@
+//! All findings that are not fatal, in their order.
+
 ghost use Rattle.std.specs.Prelude.{◌≡◌, ◌≤◌, ◌++◌, map, length, IfOk, OnOk};
 ghost use Rattle.fx_home.specs.Homes.{IsWithinLimits};
 ghost use Rattle.plain_rules.specs.Mending.{places};

@@ -1,3 +1,5 @@
+//! Which entry a file keeps: the first that names it.
+
 ghost use Rattle.std.specs.Prelude.{◌≡◌, ◌≤◌, ◌++◌, ◌∷◌, [], ◌-◌, List, map, is_some, slice_get, IfOk};
 ghost use Rattle.plain_rules.specs.declared.places.Place.{Place};
 ghost use Rattle.plain_rules.specs.Lookups.{in_use, live};

@@ -1,3 +1,5 @@
+//! The entries of all directories, each with its place.
+
 ghost use Rattle.std.specs.Prelude.{◌≡◌, ◌≤◌, ◌++◌, length, map, IfOk, OnOk};
 ghost use Rattle.plain_cat.specs.declared.entries.DirEnt.{DirEnt};
 ghost use Rattle.plain_rules.specs.Mending.{places};

@@ -14,6 +14,7 @@ use Rattle.fx_header.specs.declared.slot.HeaderFault.{HeaderFault}
 use Rattle.fx_header.specs.Headers.{header_read}
 use Rattle.fx_header.specs.Pointers.{blocks_in}
 use Rattle.fx_bitmap.specs.Bits.{bit_at}
+use Rattle.fx_dir.specs.Writing.{packed}
 use Rattle.fx_dir.specs.Directory.{directory, all_entries}
 use Rattle.fx_dir.specs.Entries.{rises}
 use Rattle.vol_parts.specs.Parts.{storage_blocks}
@@ -40,8 +41,10 @@ pub record Stands (l : Layout) (first second : List Block) (v : Volume) : Type 0
   pub main_count : length first ≡ l.cluster
   pub main : directory first ≡ Ok main_entries
   pub listed : all_entries first ≡ main_entries
+  pub main_packed : Some first ≡ packed l.cluster main_entries
   pub lost_count : length second ≡ l.cluster
   pub lost : directory second ≡ Ok []
+  pub lost_packed : Some second ≡ packed l.cluster []
   pub says : (lbn : ℕ) (part : Part) → part_of l lbn ≡ Some part → 1 < lbn → lbn < l.blocks → Says l v.home first second part (block_at v lbn)
 
 head-of : (v : Volume) (n : ℕ) (r : Result Slot HeaderFault) → header_lbn v n < length v.blocks → header_read (header_at v n) ≡ r → head v n ≡ r
@@ -224,13 +227,15 @@ stands-clear v main lost s =
       numbers = λ n past inside. numbers-of v main lost n s p (omega arith) inside ∙ lt-leb n 11 (omega (arith, s.limits.files_low));
     }
 
--- the blocks of a volume whose bytes are exact, besides those of the directories
+-- the blocks of a volume whose bytes are exact
 pub record IsExact (v : Volume) : Type 0 where
   pub home_copy : block_at v (2 * v.home.cluster) ≡ home_copy_bytes v.home
   pub header_copy : block_at v (3 * v.home.cluster) ≡ block_at v (4 * v.home.cluster + 1)
   pub headers : (n : ℕ) → 1 ≤ n → n ≤ 11 → block_at v (4 * v.home.cluster + n) ≡ header_block (layout_of v) n
   pub slots : (n : ℕ) → 11 < n → n ≤ v.home.files → block_at v (4 * v.home.cluster + n) ≡ zeros
   pub control : block_at v (first_block (layout_of v) 2) ≡ control_block (layout_of v)
+  pub main : Some (body v 4) ≡ packed v.home.cluster main_entries
+  pub lost : Some (body v 11) ≡ packed v.home.cluster []
   pub quota : (k : ℕ) → k < v.home.cluster → block_at v (first_block (layout_of v) 10 + k) ≡ quota_block (layout_of v) k
 
 stands-exact : (v : Volume) (main lost : List Block) → Stands (layout_of v) main lost v → IsExact v
@@ -250,6 +255,8 @@ stands-exact v main lost s =
       headers = system;
       slots = λ n from to. (header-says v main lost n s p (omega arith) to).1.freed from ∙ freed-none;
       control = (control-says v main lost s p).bytes;
+      main = ap (λ bs. Some bs) (main-body v main lost s p) ∙ s.main_packed;
+      lost = ap (λ bs. Some bs) (lost-body v main lost s p) ∙ s.lost_packed;
       quota = λ k h. (quota-says v main lost k s p h).bytes;
     }
 

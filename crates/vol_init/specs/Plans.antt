@@ -1,6 +1,7 @@
 -- What a volume is made of, and the blocks that are written for it so far.
 use Rattle.std.specs.Prelude.{◌≡◌, ◌≤◌, ◌<◌, ℕ, List, [], Option, Some, None, Ok, length, slice_get}
 use Rattle.base_words.specs.Fields.{Block}
+use Rattle.fx_dir.specs.Writing.{packed}
 use Rattle.fx_dir.specs.Directory.{directory, all_entries}
 use Rattle.vol_init.specs.declared.layout.Layout.{Layout}
 use Rattle.vol_init.specs.Layouts.{IsLayout, reserved_clusters, total, main_entries}
@@ -11,7 +12,7 @@ use Rattle.vol_init.specs.Parts.{part_of, Says}
 use Rattle.base_words.specs.Fields.{block_at as block_in}
 
 -- The system files have room, the home block is that of the layout, and the two directories have one cluster each and the
--- entries of a fresh volume: those of the system files, and none.
+-- entries of a fresh volume, packed: those of the system files, and none.
 pub record IsPlan (p : Plan) : Type 0 where
   pub limits : IsLayout p.layout
   pub room : reserved_clusters p.layout ≤ total p.layout
@@ -20,8 +21,10 @@ pub record IsPlan (p : Plan) : Type 0 where
   pub main_count : length p.main.items ≡ p.layout.cluster
   pub main : directory p.main.items ≡ Ok main_entries
   pub listed : all_entries p.main.items ≡ main_entries
+  pub main_packed : Some p.main.items ≡ packed p.layout.cluster main_entries
   pub lost_count : length p.lost.items ≡ p.layout.cluster
   pub lost : directory p.lost.items ≡ Ok []
+  pub lost_packed : Some p.lost.items ≡ packed p.layout.cluster []
 
 -- the plan is that of a layout and a label
 pub record IsOf (l : Layout) (label : List ℕ) (p : Plan) : Type 0 where

@@ -1,3 +1,5 @@
+//! Where the system files of a fresh volume lie.
+
 ghost use Rattle.std.specs.Prelude.{◌≡◌, ◌<◌, ◌≤◌, ◌+◌, ◌*◌};
 ghost use Rattle.vol_parts.specs.Fatal.{in_whole_clusters};
 ghost use Rattle.vol_parts.specs.Parts.{storage_blocks};

@@ -1,3 +1,5 @@
+//! The names that the headers of the system files have.
+
 ghost use Rattle.std.specs.Prelude.{◌≡◌, ◌≤◌};
 ghost use Rattle.vol_init.specs.Layouts.{text_of};
 

@@ -1,3 +1,5 @@
+//! Laws of accepted volumes: their catalogue is sound, their blocks are clean.
+
 ghost use Rattle.vol_mends.specs.Clean.{AcceptedIsClean};
 ghost use Rattle.vol_mends.specs.Accepted.{WeakCanMend, AcceptedIsSound};
 

@@ -1,3 +1,5 @@
+//! Laws of mending a directory: packing, removals, and lost files that are entered.
+
 ghost use Rattle.vol_mends.specs.Seen.{VolumeIsSeen};
 ghost use Rattle.vol_mends.specs.Moving.{DirIsRead, MovesMend, DirIsPacked, EntryGoes, LostIsEntered};
 

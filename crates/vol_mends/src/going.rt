@@ -1,3 +1,5 @@
+//! Laws of single steps: after each change and each write mending ends the same.
+
 ghost use Rattle.vol_mends.specs.Going.{GoesOn, ChangeMends, WriteMends, StartIsSettled};
 
 /// A catalogue that can be mended can be mended after each small change that mending makes, and mending ends the same.

@@ -1,3 +1,5 @@
+//! Laws of mending slots, chains, bitmaps and quota rows.
+
 ghost use Rattle.vol_mends.specs.Slots.{SlotIsFreed};
 ghost use Rattle.vol_mends.specs.Surplus.{LastIsCut};
 ghost use Rattle.vol_mends.specs.Tails.{StrayIsFreed, SurplusIsCut};

@@ -1,3 +1,5 @@
+//! Laws of blocks with no fatal finding: they can be read and mended.
+
 ghost use Rattle.vol_mends.specs.Weak.{SpeltIsWeak};
 ghost use Rattle.vol_mends.specs.Mends.{SpeltMends, SoundCanMend, SoundIsReadable};
 

@@ -1,3 +1,5 @@
+//! The blocks of a file, and the bits of a number and of a cluster.
+
 ghost use Rattle.std.specs.Prelude.{◌≡◌, ◌+◌, ◌*◌, ◌/◌, ◌≤◌, ◌<◌, ◌++◌, length, slice_range, IfOk, OnOk};
 ghost use Rattle.fx_home.specs.Homes.{IsWithinLimits};
 ghost use Rattle.vol_parts.specs.Volumes.{volume, IsNumber, runs, first_lbn, bitmap_lbn, is_used_number, is_free_cluster, body};

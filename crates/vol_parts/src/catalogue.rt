@@ -1,3 +1,5 @@
+//! The catalogue that the blocks of a volume tell.
+
 ghost use Rattle.std.specs.Prelude.{◌≡◌, ◌+◌, ◌*◌, ◌^◌, ◌≤◌, ◌<◌, None, true, length, map, take, replicate, IfOk};
 ghost use Rattle.std.specs.List.{range_with_len, sum_by, count_by};
 ghost use Rattle.fx_home.specs.Homes.{IsWithinLimits};

@@ -1,3 +1,5 @@
+//! What is wrong with the directories of a volume.
+
 ghost use Rattle.std.specs.Prelude.{◌≡◌, ◌∷◌, [], true, false, IfOk, MatchOption};
 ghost use Rattle.fx_header.specs.declared.run.Run.{Run};
 ghost use Rattle.fx_home.specs.Homes.{IsWithinLimits};

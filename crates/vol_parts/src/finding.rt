@@ -1,3 +1,5 @@
+//! What can be wrong with a volume.
+
 use fx_header::HeaderFault;
 use fx_home::{HomeFault, ScbFault};
 use plain_cat::{Name, Uic};

@@ -1,3 +1,5 @@
+//! Which numbers have a header slot of a file.
+
 ghost use Rattle.std.specs.Prelude.{◌≡◌, false, length, map, replicate, IfOk};
 ghost use Rattle.fx_home.specs.Homes.{IsWithinLimits};
 ghost use Rattle.vol_parts.specs.Catalogues.{flagged};

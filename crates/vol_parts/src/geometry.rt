@@ -1,3 +1,5 @@
+//! Where the parts of a volume lie.
+
 ghost use Rattle.std.specs.Prelude.{◌≡◌, ◌/◌};
 ghost use Rattle.vol_parts.specs.Parts.{IsGeometry, part_of, storage_blocks};
 

@@ -1,3 +1,5 @@
+//! Header slots by number, and the first headers of files.
+
 ghost use Rattle.std.specs.Prelude.{◌≡◌};
 ghost use Rattle.fx_home.specs.Homes.{IsWithinLimits};
 ghost use Rattle.vol_parts.specs.Chains.{as_first};

@@ -1,3 +1,5 @@
+//! The next header of a file.
+
 ghost use Rattle.std.specs.Prelude.{◌≡◌};
 ghost use Rattle.fx_home.specs.Homes.{IsWithinLimits};
 ghost use Rattle.vol_parts.specs.Volumes.{volume, headers_of};

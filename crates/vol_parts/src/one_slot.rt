@@ -1,3 +1,5 @@
+//! The runs that one header lists.
+
 ghost use Rattle.std.specs.Prelude.{◌≡◌, []};
 ghost use Rattle.fx_home.specs.Homes.{IsWithinLimits};
 ghost use Rattle.vol_parts.specs.Conditions.{IsUsedSlot};

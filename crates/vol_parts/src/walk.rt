@@ -1,3 +1,5 @@
+//! The runs of a file, through all of its headers.
+
 ghost use Rattle.fx_home.specs.Homes.{IsWithinLimits};
 
 use crate::links::next_header;

@@ -157,7 +157,7 @@ pub way_front : (ls : List ℕ) (ms : List Move) (bs now : List Block) (i : ℕ)
 way_front ls ms bs now i mends is =
     record { writes = moved_at ls (take i ms); made = is; mends = λ k z m. front (λ x. Mends x z) ls ms bs (λ n. mends n z m) i k }
 
-set_as : (t : Option (List Block)) (bs : List Block) (l : ℕ) (b : Block) → told_set (told_as t bs) l b ≡ told_as t (slice_set bs l b)
+pub set_as : (t : Option (List Block)) (bs : List Block) (l : ℕ) (b : Block) → told_set (told_as t bs) l b ≡ told_as t (slice_set bs l b)
 set_as None bs l b = refl
 set_as (Some x) bs l b = refl
 

@@ -45,7 +45,8 @@ use Rattle.vol_spell.proofs.Parts.{part_owned}
 use Rattle.vol_mends.proofs.Moved.{file_number}
 use Rattle.vol_rebuild.specs.Places.{written_at}
 use Rattle.vol_repair.specs.Alike.{bare, IsSameBut, IsSpeltAs, TellsAlike}
-use Rattle.vol_repair.specs.Listed.{runs_by, places_listed, IsThere}
+use Rattle.vol_repair.specs.Listed.{places_listed, IsThere}
+use Rattle.vol_parts.specs.Volumes.{runs_with}
 use Rattle.vol_repair.specs.Removing.{without_told, lists, IsListed, MovesSpell}
 use Rattle.vol_repair.proofs.Relisting.{told_listed, each_same}
 
@@ -94,7 +95,7 @@ module _ (g : Geometry) (bs : List Block) (c : Cat) (p : Place) (d : File) (t : 
   dir = dir_at g bs t.own c s p.dir number d is.at is.dir
 
   places_are : places_listed (header_block g bs p.dir) ≡ places_in (header_block g bs p.dir)
-  places_are = ap (λ o. lbns_in (runs_by o (header_block g bs p.dir))) (first_used (header_read (header_block g bs p.dir)) dir.fields dir.header)
+  places_are = ap (λ o. lbns_in (runs_with o (header_block g bs p.dir))) (first_used (header_read (header_block g bs p.dir)) dir.fields dir.header)
 
   inside : (l : ℕ) → Has (places_in (header_block g bs p.dir)) l → l < length bs
   inside l h = (of_body g bs t.own c s p.dir l number (subst (λ (ls : List ℕ). Has ls l) (sym dir.places) h)).within

@@ -8,7 +8,7 @@ use Rattle.base_words.specs.Fields.{Block}
 use Rattle.base_words.specs.Lists.{Has, written, Touches}
 use Rattle.base_words.proofs.ListWrites.{get-set_here, get-written_else}
 use Rattle.vol_repair.specs.Remaking.{laid}
-use Rattle.vol_repair.proofs.Stepping.{written_next}
+use Rattle.vol_rebuild.proofs.Stepping.{written_next}
 
 -- number i of them stands i behind the first
 pub laid_at : (l : ℕ) (bs : List Block) (i : ℕ) (d : Block) → i < length bs → slice_get (laid l bs) i ≡ Some (l + i, get_or bs i d)

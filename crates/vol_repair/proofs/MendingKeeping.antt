@@ -39,6 +39,7 @@ use Rattle.vol_repair.specs.Laws.{IsMendable, MendingKeeps}
 use Rattle.vol_repair.proofs.Besides.{AreBeside, none_beyond}
 use Rattle.vol_repair.proofs.SlotsAlike.{bare_file, IsUsed, used_in, patched_alike}
 use Rattle.vol_repair.proofs.AlikeKeeping.{systems_alike, sound_alike, still_there}
+use Rattle.plain_laws.proofs.ClearSteps.{lost_named}
 
 -- ---- the cluster factor and the number of files stay
 
@@ -105,47 +106,6 @@ entered_names x y k fid e n = record { place = n.place; within = entered_in x y 
 
 fid_is : (x : Fid) (k m s t : ℕ) → x ≡ record { num = k; seq = s } → k ≡ m → s ≡ t → x ≡ record { num = m; seq = t }
 fid_is x k m s t h e f = h ∙ (ap (λ (n : ℕ). record { num = n; seq = s }) e ∙ ap (λ (q : ℕ). record { num = m; seq = q }) f)
-
--- an entered file is named
-new_names : (a x y : Cat) (k m : ℕ) (f : File) → SameFiles a x → ((g : File) → file_at a 11 ≡ Some g → g.dir ≡ true) → file_at a m ≡ Some f → k ≡ m
-    → Entered x y k → Names y (record { num = m; seq = f.seq })
-new_names a x y k m f same dir at number e =
-    let l = like_left a x 11 e.lost same e.lost_at in
-    let d : e.lost.dir ≡ true = ap (λ (z : File). z.dir) (sym l.same) ∙ dir l.file l.at in
-    let o = like_left a x k e.own same e.own_at in
-    let both : Some f ≡ Some o.file = sym at ∙ (ap (λ n. file_at a n) (sym number) ∙ o.at) in
-    let one : f ≡ o.file = cc both in
-    let seq : e.own.seq ≡ f.seq = ap (λ (z : File). z.seq) (sym o.same) ∙ ap (λ (z : File). z.seq) (sym one) in
-    record {
-      place = new_place e.entry;
-      within = entered_new x y k e d;
-      same = fid_is e.entry.fid k m e.own.seq f.seq e.fid number seq;
-    }
-
--- a file to be entered, or named by now
-abbrev Ready : Cat → ℕ → Fid → List ℕ → Cat → Type 0
-Ready a m fid ns x = SameFiles a x × (Names x fid ⊎ Has ns m)
-
--- a lost file that is not empty is named once all of these are entered
-lost_named : (a b : Cat) (m : ℕ) (f : File) → with_lost a ≡ Some b → ((g : File) → file_at a 11 ≡ Some g → g.dir ≡ true) → file_at a m ≡ Some f
-    → Has (lost a false) m → Names b (record { num = m; seq = f.seq })
-lost_named a b m f h dir at has =
-    let t = both_from a b h in
-    let first : Ready a m fid [] t.middle = all_on (Ready a m fid) step (lost a false) [] a t.middle t.first (λ n. refl, inr (has_first (lost a false) [] m has)) in
-    let named : Names t.middle fid = done t.middle first.1 in
-    subst (λ (z : Cat). Names z fid) t.second
-    (some_on (λ ns x. Names x fid) (λ k ms x y e n. entered_names x y k fid e n) (λ k ms x n. n) (lost a true) t.middle named) where
-      fid : Fid
-      fid = record { num = m; seq = f.seq }
-
-      done : (x : Cat) → Names x fid ⊎ Has [] m → Names x fid
-      done x (inl n) = n
-      done x (inr h) = absurd h
-
-      step : (k : ℕ) (ms : List ℕ) (x y : Cat) → Entered x y k → Ready a m fid (k ∷ ms) x → Ready a m fid ms y
-      step k ms x y e (same, inl n) = (λ i. same i ∙ entered_same x y k e i, inl (entered_names x y k fid e n))
-      step k ms x y e (same, inr (inl number)) = (λ i. same i ∙ entered_same x y k e i, inl (new_names a x y k m f same dir at number e))
-      step k ms x y e (same, inr (inr rest)) = (λ i. same i ∙ entered_same x y k e i, inr rest)
 
 -- a file that goes though it is not marked for delete is lost and empty
 module _ (c d : Cat) (m : Mended) (n : ℕ) (f : File) (h : mended c ≡ Some (d, m)) (directory : (g : File) → file_at c 11 ≡ Some g → g.dir ≡ true)

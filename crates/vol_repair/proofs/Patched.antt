@@ -42,41 +42,16 @@ use Rattle.vol_sound.proofs.KeptFiles.{slot_used, emptied_open, IsSystemHeader, 
 use Rattle.vol_sound.proofs.Rowed.{each_rowed}
 use Rattle.vol_sound.proofs.Unlooped.{no_loop_is_left}
 use Rattle.vol_repair.specs.Alike.{bare, IsSameBut}
+use Rattle.vol_sound.proofs.Unlooped.{file_relisted}
 
 -- ---- other entries in each directory
 
 abbrev Change : Type 0
 Change = ℕ → List DirEnt → List DirEnt
 
-abbrev relisted : Change → ℕ → Option Slot → Option Slot
-relisted change n None = None
-relisted change n (Some (Used f)) = Some (Used (record f { entries = change n f.entries }))
-relisted change n (Some (Free seq)) = Some (Free seq)
-
 abbrev refiled : Change → ℕ → Option File → Option File
 refiled change n None = None
 refiled change n (Some f) = Some (record f { entries = change n f.entries })
-
-each_at : (change : Change) (a : ℕ) (ss : List Slot) (i : ℕ) → slice_get (each_listed change a ss) i ≡ relisted change (a + i) (slice_get ss i)
-each_at change a [] i = refl
-each_at change a (Used f ∷ ss) zero = ap (λ k. Some (Used (record f { entries = change k f.entries }))) (let e : a ≡ a + 0 = omega arith in e)
-each_at change a (Free seq ∷ ss) zero = refl
-each_at change a (Used f ∷ ss) (suc i) = each_at change (a + 1) ss i ∙ ap (λ k. relisted change k (slice_get ss i)) (let e : a + 1 + i ≡ a + suc i = omega arith in e)
-each_at change a (Free seq ∷ ss) (suc i) = each_at change (a + 1) ss i ∙ ap (λ k. relisted change k (slice_get ss i)) (let e : a + 1 + i ≡ a + suc i = omega arith in e)
-
-in_slot : (change : Change) (n : ℕ) (o : Option Slot) → file_in (relisted change n o) ≡ refiled change n (file_in o)
-in_slot change n None = refl
-in_slot change n (Some (Used f)) = refl
-in_slot change n (Some (Free seq)) = refl
-
-file_relisted : (change : Change) (c : Cat) (n : ℕ) → file_at (with_each change c) n ≡ refiled change n (file_at c n)
-file_relisted change c n = by_test (n == 0) refl where
-  by_test : (t : Bool) → (n == 0) ≡ t → file_in (cond t None (slice_get (each_listed change 1 c.files) (n - 1))) ≡ refiled change n (file_in (cond t None (slice_get c.files (n - 1))))
-  by_test true e = refl
-  by_test false e =
-      let ne : n ≢ 0 = (λ z. let y : true ≡ false = sym (eq-eqb n 0 z) ∙ e in cc) in
-      ap file_in (each_at change 1 c.files (n - 1)) ∙ in_slot change (1 + (n - 1)) (slice_get c.files (n - 1))
-      ∙ ap (λ k. refiled change k (file_in (slice_get c.files (n - 1)))) (let z : 1 + (n - 1) ≡ n = omega arith in z)
 
 systems_relisted : (change : Change) (c : Cat) → HasSystems c → HasSystems (with_each change c)
 systems_relisted change c h n from to =

@@ -20,26 +20,7 @@ use Rattle.vol_sound.proofs.OneSlot.{one_freed}
 use Rattle.vol_sound.proofs.Bodies.{header_on}
 use Rattle.vol_sound.proofs.KeptLemmas.{flag-at}
 use Rattle.vol_repair.specs.Touched.{IsTouched, IsGround}
-
--- a free slot says the sequence that stands in it
-free_seq : (b : Block) (seq : ℕ) → header_read b ≡ Ok (Free seq) → field b 10 2 ≡ seq
-unfolding header_read
-free_seq b seq e =
-    by_tests (is_free b) (has_sum b) (has_level b) (has_offsets b) (is_on_this_volume b) (has_segment b) (has_map b) (has_end b) e
-  where
-    by_tests : (free sum level offsets volume segment map ends : Bool)
-        → cond free (Ok (Free (field b 10 2))) (cond (not sum) (Err BadSum) (cond (not level) (Err BadLevel) (cond (not offsets) (Err BadOffsets) (cond (not volume) (Err BadRvn)
-        (cond (not segment) (Err BadExtension) (cond (not map) (Err BadMap) (cond (not ends) (Err BadEnd) (Ok (Used (fields_of b)))))))))) ≡ Ok (Free seq)
-        → field b 10 2 ≡ seq
-    by_tests true sum level offsets volume segment map ends e = let z : Ok (Free (field b 10 2)) ≡ Ok (Free seq) = e in cc
-    by_tests false false level offsets volume segment map ends e = absurd (cc)
-    by_tests false true false offsets volume segment map ends e = absurd (cc)
-    by_tests false true true false volume segment map ends e = absurd (cc)
-    by_tests false true true true false segment map ends e = absurd (cc)
-    by_tests false true true true true false map ends e = absurd (cc)
-    by_tests false true true true true true false ends e = absurd (cc)
-    by_tests false true true true true true true false e = absurd (cc)
-    by_tests false true true true true true true true e = absurd (cc)
+use Rattle.vol_sound.proofs.OneSlot.{free_seq}
 
 head_seq : (v : Volume) (m seq : ℕ) → head v m ≡ Ok (Free seq) → seq_at v m ≡ seq
 unfolding head

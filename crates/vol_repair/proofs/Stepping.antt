@@ -15,6 +15,7 @@ use Rattle.vol_repair.specs.declared.fault.StepFault.TheVariants.{ImageFault, No
 use Rattle.vol_repair.specs.Steps.{IsWay, IsAhead, IsStep}
 use Rattle.blk_drive.specs.Telling.{IsTold as Shows}
 use Rattle.blk_drive.specs.Telling.{told_as}
+use Rattle.vol_rebuild.proofs.Stepping.{written_next, set_as, on_volume, moves_made, move_made}
 
 -- ---- ways
 
@@ -152,12 +153,6 @@ failed {P} bs new l b t u f g F before behind is told later rose p =
 
 -- ---- writes, one after another
 
--- one write more
-pub written_next : (ws : List (ℕ × Block)) (i : ℕ) (w : ℕ × Block) (bs : List Block) → slice_get ws i ≡ Some w → written (take (suc i) ws) bs ≡ slice_set (written (take i ws) bs) w.0 w.1
-written_next [] i w bs at = absurd (cc at)
-written_next (x ∷ xs) zero w bs at = let same : x ≡ w = cc at in λ i. slice_set bs (same i).0 (same i).1
-written_next (x ∷ xs) (suc i) w bs at = written_next xs i w (slice_set bs x.0 x.1) at
-
 pub move_next : (ls : List ℕ) (ms : List Move) (i : ℕ) (m : Move) (bs : List Block) → slice_get ms i ≡ Some m
     → written_at ls (take (suc i) ms) bs ≡ slice_set (written_at ls (take i ms) bs) (slice_index_or ls (m.vbn - 1) 0) m.block
 move_next ls [] i m bs at = absurd (cc at)
@@ -175,10 +170,6 @@ pub way_front : {P : List Block → Type 0} (ls : List ℕ) (ms : List Move) (bs
     → now ≡ written_at ls (take i ms) bs → IsWay P bs now
 way_front {P} ls ms bs now i holds is =
     record { writes = moved_at ls (take i ms); made = is; holds = front P ls ms bs holds i }
-
-set_as : (t : Option (List Block)) (bs : List Block) (l : ℕ) (b : Block) → told_set (told_as t bs) l b ≡ told_as t (slice_set bs l b)
-set_as None bs l b = refl
-set_as (Some x) bs l b = refl
 
 -- all moves before number i are made, and the next one failed
 pub failed_at : {P : List Block → Type 0} (ls : List ℕ) (ms : List Move) (old now new : List Block) (i : ℕ) (m : Move) (t u v : Option (List Block)) (f g h : ℕ) (F : Type 0)
@@ -258,18 +249,6 @@ lacking_on a b t u f g y d yd lack s = step_as a b t u f g ⊥ (y ≡ Err ImageF
 
 -- ---- moves at the places of a list
 
--- a place of a list, and the first block where there is none
-pub on_volume : (ls : List ℕ) (n i l : ℕ) → All (λ l. l < n) ls → 0 < n → l ≡ slice_index_or ls i 0 → l < n
-on_volume ls n i l inside some e = by_place (cases_lt i (length ls)) where
-  past : (xs : List ℕ) (j : ℕ) → length xs ≤ j → slice_index_or xs j 0 ≡ 0
-  past [] j h = refl
-  past (x ∷ xs) zero h = absurd (omega (arith, h))
-  past (x ∷ xs) (suc j) h = past xs j (omega (arith, h))
-
-  by_place : (i < length ls) ⊎ (length ls ≤ i) → l < n
-  by_place (inl lt) = let k = inside i 0 lt in omega (arith, k, e)
-  by_place (inr le) = let k = past ls i le in omega (arith, k, e, some)
-
 pub move_failed : {P : List Block → Type 0} (ls : List ℕ) (ms : List Move) (old now new : List Block) (i l : ℕ) (d : Move) (t u v : Option (List Block)) (f g h : ℕ) (F : Type 0)
     → ((k : ℕ) → P (written_at ls (take k ms) old)) → now ≡ written_at ls (take i ms) old → i < length ms → l ≡ slice_index_or ls ((get_or ms i d).vbn - 1) 0
     → (Shows t old → u ≡ told_as t now) → new ≡ now → (v ≡ u) ⊎ (v ≡ told_set u l (get_or ms i d).block) → f ≤ g → g ≤ h → Rose g h → F → IsStep P old new t v f h F
@@ -277,21 +256,5 @@ move_failed ls ms old now new i l d t u v f g h F holds is lt at image same told
     failed_at ls ms old now new i (get_or ms i d) t u v f g h F holds is (slice_get-get_or ms i d lt) image same
     (subst (λ (k : ℕ). (v ≡ u) ⊎ (v ≡ told_set u k (get_or ms i d).block)) at told) first later rose p
 
-pub move_made : (ls : List ℕ) (ms : List Move) (old now new : List Block) (i l : ℕ) (d : Move) → now ≡ written_at ls (take i ms) old → i < length ms → l ≡ slice_index_or ls ((get_or ms i d).vbn - 1) 0
-    → new ≡ slice_set now l (get_or ms i d).block → new ≡ written_at ls (take (i + 1) ms) old
-move_made ls ms old now new i l d is lt at made =
-    let next : suc i ≡ i + 1 = omega arith in
-    made ∙ ((λ j. slice_set (is j) (at j) (get_or ms i d).block)
-    ∙ (sym (move_next ls ms i (get_or ms i d) old (slice_get-get_or ms i d lt)) ∙ (λ j. written_at ls (take (next j) ms) old)))
-
 pub move_told : (t u v : Option (List Block)) (old now new : List Block) (l : ℕ) (b : Block) → (Shows t old → u ≡ told_as t now) → new ≡ slice_set now l b → v ≡ told_set u l b → Shows t old → v ≡ told_as t new
 move_told t u v old now new l b image made told shown = told_next t u v now l b (image shown) told ∙ (λ j. told_as t (sym made j))
-
--- all are made
-pub moves_made : (ls : List ℕ) (ms : List Move) (old now : List Block) (i : ℕ) → now ≡ written_at ls (take i ms) old → length ms ≤ i → now ≡ written_at ls ms old
-moves_made ls ms old now i is le = is ∙ (λ j. written_at ls (all ms i le j) old) where
-  all : (xs : List Move) (k : ℕ) → length xs ≤ k → take k xs ≡ xs
-  all [] zero h = refl
-  all [] (suc k) h = refl
-  all (x ∷ xs) zero h = absurd (omega (arith, h))
-  all (x ∷ xs) (suc k) h = ap (λ ys. x ∷ ys) (all xs k (omega (arith, h)))

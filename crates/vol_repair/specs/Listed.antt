@@ -6,16 +6,12 @@ use Rattle.fx_header.specs.declared.slot.Hdr.{Hdr}
 use Rattle.fx_header.specs.Headers.{header_read, runs_in}
 use Rattle.fx_header.specs.Pointers.{lbns_in}
 use Rattle.vol_parts.specs.declared.geometry.Geometry.{Geometry}
-use Rattle.vol_parts.specs.Volumes.{fields_in}
+use Rattle.vol_parts.specs.Volumes.{fields_in, runs_with}
 use Rattle.vol_spell.specs.Reading.{header_block, header_place}
-
-abbrev pub runs_by : Option Hdr → Block → List Run
-runs_by (Some f) b = runs_in b
-runs_by None b = []
 
 -- the runs that a header lists: none where it is not in use
 abbrev pub runs_listed : Block → List Run
-runs_listed b = runs_by (fields_in (header_read b)) b
+runs_listed b = runs_with (fields_in (header_read b)) b
 
 -- where the blocks of these runs stand
 abbrev pub places_listed : Block → List ℕ

@@ -26,10 +26,10 @@ pub enum RepairFault {
     /// All is repaired, but `[SYSLOST]` has no room for a lost file that is not empty. What was written stays.
     NoRoom(Finding),
 
-    /// A write of the image failed, and the image has counted it. Each sound file is kept, and a repair can be made again.
+    /// A write of the image failed, and the image has counted it. Sound files are kept as `repair` says, and it can be called again.
     ImageFault,
 
-    /// Memory ran out, before the first write or between two. Each sound file is kept, and a repair can be made again.
+    /// Memory ran out, before the first write or between two. Sound files are kept as `repair` says, and it can be called again.
     NoMemory,
 }
 

@@ -8,9 +8,9 @@
 //! ```
 //!
 //! Ok comes with an accepted volume, whose catalogue is that to which mending takes the patched one (`repaired`). After each of its
-//! writes nothing is beyond repair, and every file that was sound is so still, or is an empty lost file that has no room (`step`): so a
-//! repair that is stopped anywhere can be made again. If something is beyond repair nothing is written (`beyond`), and `NotRepairable`
-//! tells the first such finding (`refused`).
+//! writes nothing is beyond repair, and every file that was sound is so still, except one that is marked for delete and an empty lost
+//! one that has no room (`step`): so a repair that is stopped anywhere can be made again. If something is beyond repair nothing is
+//! written (`beyond`), and `NotRepairable` tells the first such finding (`refused`).
 //!
 //! `clus_top` uses it for the job `repair`.
 #![tactic(auto)]

@@ -82,7 +82,8 @@ fn repair_mendable<I: ImageDev>(
     Ok(Repaired { slots, mended })
 }
 
-/// Repairs a volume, which has 64 to 65,536 blocks: every sound file stays as it is, and what is broken or shared is freed. Header slots
+/// Repairs a volume, which has 64 to 65,536 blocks: every sound file is kept, except one that is marked for delete, and an empty lost one for
+/// which `[SYSLOST]` has no room; its owner, its entries and its name may change. What is broken or shared is freed. Header slots
 /// above number 11 that are used or have a fault, and are not a sound file's, become free; a system directory that cannot be read
 /// becomes empty, and the master file directory gets the entries of the system files where it lacks one; a directory that is marked for
 /// delete becomes empty; the master file directory is named by its own entry alone, and directories on a loop lose their entries of
@@ -103,7 +104,8 @@ pub fn repair<I: ImageDev>(alloc: Global, m: &mut Mirror<I>) -> Result<Repaired,
     // NoRoom comes only where mending gives up on the patched catalogue, which the blocks spell then.
     ensures roomless { (f : Finding) → result ≡ Err (RepairFault.NoRoom f) → IsRoomless m.old.blocks m.new.blocks f }
 
-    // Whatever the answer, writes lead to what is left, and after each of them every sound file is kept. ImageFault comes only where the
+    // Whatever the answer, writes lead to what is left, and after each of them every sound file is kept, except a marked one and an empty
+    // lost one that mending leaves out. ImageFault comes only where the
     // image's count rose. The image has what is left, or, after a failed write, may have one block more, and keeps them then too.
     ensures step { IsStep (Keeps m.old.blocks) m.old.blocks m.new.blocks (I.told m.old.image) (I.told m.new.image) (I.faults m.old.image) (I.faults m.new.image) (result ≡ Err RepairFault.ImageFault) }
 {

@@ -19,7 +19,7 @@ use Rattle.vol_sound.proofs.Freed.{head_by}
 use Rattle.vol_sound.proofs.Bodies.{header_on}
 
 -- a free slot says the sequence that stands in it
-free_seq : (b : Block) (seq : ℕ) → header_read b ≡ Ok (Free seq) → field b 10 2 ≡ seq
+pub free_seq : (b : Block) (seq : ℕ) → header_read b ≡ Ok (Free seq) → field b 10 2 ≡ seq
 unfolding header_read
 free_seq b seq e =
     by_tests (is_free b) (has_sum b) (has_level b) (has_offsets b) (is_on_this_volume b) (has_segment b) (has_map b) (has_end b) e

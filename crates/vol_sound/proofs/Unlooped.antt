@@ -46,7 +46,7 @@ in_slot change n None = refl
 in_slot change n (Some (Used f)) = refl
 in_slot change n (Some (Free seq)) = refl
 
-file_relisted : (change : Change) (c : Cat) (n : ℕ) → file_at (with_each change c) n ≡ refiled change n (file_at c n)
+pub file_relisted : (change : Change) (c : Cat) (n : ℕ) → file_at (with_each change c) n ≡ refiled change n (file_at c n)
 file_relisted change c n = by_number (n == 0) refl where
   by_number : (t : Bool) → (n == 0) ≡ t → file_in (cond t None (slice_get (each_listed change 1 c.files) (n - 1))) ≡ refiled change n (file_in (cond t None (slice_get c.files (n - 1))))
   by_number true e = refl

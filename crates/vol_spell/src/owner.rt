@@ -1,3 +1,5 @@
+//! Who has a cluster or a file number at a moment.
+
 /// Who has a cluster or a file number at a moment.
 #[derive(Clone, Copy, Debug, PartialEq)]
 pub enum Owner {

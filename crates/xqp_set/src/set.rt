@@ -1,3 +1,5 @@
+//! The operation of any command.
+
 use op_access::OpAccess;
 use op_create::OpCreate;
 use op_data::OpData;

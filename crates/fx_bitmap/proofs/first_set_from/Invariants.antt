@@ -1,6 +1,12 @@
-use Rattle.std.proofs.Common.{◌≡◌, ◌<◌, ◌≤◌, ℕ, false}
+use Rattle.std.proofs.Common.{◌≡◌, ◌-◌, ◌<◌, ◌≤◌, ℕ, false}
 use Rattle.fx_bitmap.specs.Bits.{bit_at}
 use Rattle.fx_bitmap.proofs.first_set_from.Given as goal
 
 abbrev pub invariant-loop-i : goal.invariant-loop-i
-invariant-loop-i l = (j : ℕ) → l.fn.from ≤ j → j < l.i → bit_at l.b j ≡ false
+invariant-loop-i l = record {
+  from : l.fn.from ≤ l.i;
+  clear : (j : ℕ) → l.fn.from ≤ j → j < l.i → bit_at l.b j ≡ false;
+}
+
+abbrev pub decreases-loop-i : goal.decreases-loop-i
+decreases-loop-i l = 4096 - l.i

@@ -1,3 +1,5 @@
+//! Rows of OPEN, READ, WRITE, CLOSE, and of a file that is deleted while it is open.
+
 use super::replay::{Answer, Command, FIRST, MFD, Step, USER};
 use Answer::{
     Bytes, Closed, Deleted, EntryRemoved, Facts, Found, Marked, Opened, Refused, Written,

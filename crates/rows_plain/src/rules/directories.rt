@@ -1,3 +1,5 @@
+//! Rows of names, versions and directories, up to a full one.
+
 use super::replay::{Answer, Command, FIRST, Item, MFD, Replay, STRANGER, Step, USER, long_name};
 use Answer::{Deleted, EntryRemoved, Facts, Found, Listed, Marked, Refused, Renamed};
 use Command::{Create, Delete, List, MkDir, Rename, Stat};

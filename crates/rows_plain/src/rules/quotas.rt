@@ -1,3 +1,5 @@
+//! Rows of quotas and usage.
+
 use super::replay::{Answer, Command, FIRST, MFD, Replay, STRANGER, SYSTEM, Step, USER};
 use Answer::{Found, QuotaKept, Refused, Size, Usage, Written};
 use Command::{Create, Extend, QuotaSet, QuotaShow};

@@ -1,3 +1,5 @@
+//! The harness of these rows: commands on a fresh volume, each with its answer.
+
 ghost use Rattle.std.specs.Prelude.{IsTrue};
 ghost use Rattle.plain_rules.specs.Checks.{EntryInForm};
 

@@ -1,3 +1,5 @@
+//! Rows of EXTEND and TRUNC, and of the order of their refusals.
+
 use super::replay::{Answer, Command, FIRST, MFD, Step, USER};
 use Answer::{Facts, Found, Refused, Size, Usage};
 use Command::{Create, Extend, QuotaShow, Stat, Trunc};

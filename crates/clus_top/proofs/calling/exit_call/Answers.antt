@@ -16,8 +16,9 @@ returns-in-Ok g c =
       written = g.O.TextOut.written c.args.out.now;
       script_faults = g.T.TextIn.faults c.args.script.now;
       image_faults = g.I.ImageDev.faults c.args.image;
+      image_lost = g.I.ImageDev.lost c.args.image;
       out_faults = g.O.TextOut.faults c.args.out.now;
-    }) (g.O.TextOut.written c.vmsclus-finished.new.out) (g.I.ImageDev.told c.vmsclus-finished.result.image) (g.T.TextIn.faults c.vmsclus-finished.new.script) (g.I.ImageDev.faults c.vmsclus-finished.result.image) (g.O.TextOut.faults c.vmsclus-finished.new.out) (exit_status c.exit_code-code.result) in
+    }) (g.O.TextOut.written c.vmsclus-finished.new.out) (g.I.ImageDev.told c.vmsclus-finished.result.image) (g.T.TextIn.faults c.vmsclus-finished.new.script) (g.I.ImageDev.faults c.vmsclus-finished.result.image) (g.I.ImageDev.lost c.vmsclus-finished.result.image) (g.O.TextOut.faults c.vmsclus-finished.new.out) (exit_status c.exit_code-code.result) in
     subst P (c.as_slice.ensures.value ∙ c.in-Ok.ensures) (record { status = c.vmsclus-finished.result.status; number_is = c.exit_code-code.ensures; call = c.vmsclus-finished.ensures })
 
 pub returns-in-Err : goal.returns-in-Err
@@ -26,5 +27,5 @@ returns-in-Err g c = record {
   number_is = c.no_memory-code.ensures.number;
   call = any_script (g.T.TextIn.left c.args.script.now) _
       (λ bytes. image_stays (g.I.ImageDev.size c.args.image) (g.I.ImageDev.told c.args.image) (g.I.ImageDev.told c.args.image) _ (g.met.I.ImageDev.counted c.args.image) refl
-      (λ bs count. lacking_call _ bytes (g.I.ImageDev.size c.args.image) bs _ _ _ _ _ _ _ _ c.no_memory-code.ensures.text));
+      (λ bs count. lacking_call _ bytes (g.I.ImageDev.size c.args.image) bs _ _ _ _ _ _ _ _ _ _ c.no_memory-code.ensures.text));
 }

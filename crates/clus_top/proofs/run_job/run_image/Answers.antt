@@ -30,7 +30,7 @@ returns-in-Ok-clause-end g c =
       count = c.in-Ok.ensures.count;
       read = c.in-Ok.ensures.blocks;
       then = leaves_has (g.I.ImageDev.told c.args.image) now _ _
-          (λ new e. stop_on c.args.script.now (g.I.ImageDev.size c.args.image) c.in-Ok.mirror.blocks new (g.I.ImageDev.faults c.args.image) had has s c.in-Ok.ensures.inside c.in-Ok.ensures.later e)
+          (λ new e. stop_on c.args.script.now (g.I.ImageDev.size c.args.image) c.in-Ok.mirror.blocks new (g.I.ImageDev.faults c.args.image) had has (g.I.ImageDev.lost c.args.image) (g.I.ImageDev.lost c.run_mounted.result.image) s c.in-Ok.ensures.inside c.in-Ok.ensures.later e)
           (subst (λ t. Leaves t now (λ new. IsStopBy c.args.script.now c.in-Ok.mirror.blocks new had has s)) c.in-Ok.ensures.told h);
     })
     c.run_mounted.ensures.end
@@ -40,5 +40,7 @@ returns-in-Err-clause-end g c =
     let size = g.I.ImageDev.size c.args.image in
     let had = g.I.ImageDev.faults c.args.image in
     let has = g.I.ImageDev.faults c.in-Err.field-0.image in
+    let lost = g.I.ImageDev.lost c.args.image in
+    let losing = g.I.ImageDev.lost c.in-Err.field-0.image in
     image_stays size (g.I.ImageDev.told c.args.image) (g.I.ImageDev.told c.in-Err.field-0.image) _ (g.met.I.ImageDev.counted c.args.image) c.in-Err.ensures.told
-    (λ bs count. subst (λ s. IsImageStop c.args.script.now size bs bs had has (stop.By s)) (sym c.load_status.ensures) (load_end c.args.script.now size bs had has c.in-Err.field-0.fault c.in-Err.ensures.cause))
+    (λ bs count. subst (λ s. IsImageStop c.args.script.now size bs bs had has lost losing (stop.By s)) (sym c.load_status.ensures) (load_end c.args.script.now size bs had has lost losing c.in-Err.field-0.fault c.in-Err.ensures.lost c.in-Err.ensures.cause))

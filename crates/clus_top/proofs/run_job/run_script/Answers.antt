@@ -19,7 +19,7 @@ returns-in-Ok-clause-end g c =
     (λ s h. script_has (g.T.TextIn.left c.args.script.now) _ _
     (λ bytes spelt. image_has (g.I.ImageDev.size c.args.image) (g.I.ImageDev.told c.args.image) (g.I.ImageDev.told c.run_image.result.image) _ _
     (λ old new e. run_stop bytes c.in-Ok.spelt spelt (g.I.ImageDev.size c.args.image) old new (g.T.TextIn.faults c.args.script.now) (g.T.TextIn.faults c.script_of.new.script)
-    (g.I.ImageDev.faults c.args.image) (g.I.ImageDev.faults c.run_image.result.image) s e) h)
+    (g.I.ImageDev.faults c.args.image) (g.I.ImageDev.faults c.run_image.result.image) (g.I.ImageDev.lost c.args.image) (g.I.ImageDev.lost c.run_image.result.image) s e) h)
     c.in-Ok.ensures.spelt)
     c.run_image.ensures.end
 
@@ -27,5 +27,5 @@ pub returns-in-Err-clause-end : goal.returns-in-Err-clause-end
 returns-in-Err-clause-end g c =
     script_has (g.T.TextIn.left c.args.script.now) _ _
     (λ bytes h. image_stays (g.I.ImageDev.size c.args.image) (g.I.ImageDev.told c.args.image) (g.I.ImageDev.told c.args.image) _ (g.met.I.ImageDev.counted c.args.image) refl
-    (λ bs count. script_end bytes (g.I.ImageDev.size c.args.image) bs (g.T.TextIn.faults c.args.script.now) (g.T.TextIn.faults c.script_of.new.script) (g.I.ImageDev.faults c.args.image) (g.I.ImageDev.faults c.args.image) c.in-Err.status h))
+    (λ bs count. script_end bytes (g.I.ImageDev.size c.args.image) bs (g.T.TextIn.faults c.args.script.now) (g.T.TextIn.faults c.script_of.new.script) (g.I.ImageDev.faults c.args.image) (g.I.ImageDev.faults c.args.image) (g.I.ImageDev.lost c.args.image) (g.I.ImageDev.lost c.args.image) c.in-Err.status h))
     c.in-Err.ensures.end

@@ -15,7 +15,7 @@ pub returns-in-Ok-clause-end : goal.returns-in-Ok-clause-end
 returns-in-Ok-clause-end g c =
     if_err c.run_image.result.outcome _ _
     (λ s h. image_has (g.I.ImageDev.size c.args.image) (g.I.ImageDev.told c.args.image) (g.I.ImageDev.told c.run_image.result.image) _ _
-    (λ old new e. soak_stop c.args.n c.in-Ok.drawn c.in-Ok.ensures.script (g.I.ImageDev.size c.args.image) old new (g.I.ImageDev.faults c.args.image) (g.I.ImageDev.faults c.run_image.result.image) s e) h)
+    (λ old new e. soak_stop c.args.n c.in-Ok.drawn c.in-Ok.ensures.script (g.I.ImageDev.size c.args.image) old new (g.I.ImageDev.faults c.args.image) (g.I.ImageDev.faults c.run_image.result.image) (g.I.ImageDev.lost c.args.image) (g.I.ImageDev.lost c.run_image.result.image) s e) h)
     c.run_image.ensures.end
 
 pub returns-in-Err-clause-end : goal.returns-in-Err-clause-end

@@ -31,7 +31,7 @@ returns-in-Ok-clause-halt g c =
       count = c.in-Ok.ensures.count;
       read = c.in-Ok.ensures.blocks;
       then = leaves_has (g.I.ImageDev.told c.args.image) now _ _
-          (λ new e. halt_on c.args.script.now (g.I.ImageDev.size c.args.image) c.in-Ok.mirror.blocks new (g.I.ImageDev.faults c.args.image) had has x c.in-Ok.ensures.inside c.in-Ok.ensures.later e)
+          (λ new e. halt_on c.args.script.now (g.I.ImageDev.size c.args.image) c.in-Ok.mirror.blocks new (g.I.ImageDev.faults c.args.image) had has (g.I.ImageDev.lost c.args.image) (g.I.ImageDev.lost c.mend_mounted.result.image) x c.in-Ok.ensures.inside c.in-Ok.ensures.later e)
           (subst (λ t. Leaves t now (λ new. IsHaltIn c.args.script.now c.in-Ok.mirror.blocks new had has x)) c.in-Ok.ensures.told h);
     })
     c.mend_mounted.ensures.halt
@@ -41,5 +41,7 @@ returns-in-Err-clause-halt g c =
     let size = g.I.ImageDev.size c.args.image in
     let had = g.I.ImageDev.faults c.args.image in
     let has = g.I.ImageDev.faults c.in-Err.field-0.image in
+    let lost = g.I.ImageDev.lost c.args.image in
+    let losing = g.I.ImageDev.lost c.in-Err.field-0.image in
     image_stays size (g.I.ImageDev.told c.args.image) (g.I.ImageDev.told c.in-Err.field-0.image) _ (g.met.I.ImageDev.counted c.args.image) c.in-Err.ensures.told
-    (λ bs count. subst (λ s. IsImageHalt c.args.script.now size bs bs had has (halt.By s)) (sym c.load_status.ensures) (inl (load_end c.args.script.now size bs had has c.in-Err.field-0.fault c.in-Err.ensures.cause)))
+    (λ bs count. subst (λ s. IsImageHalt c.args.script.now size bs bs had has lost losing (halt.By s)) (sym c.load_status.ensures) (inl (load_end c.args.script.now size bs had has lost losing c.in-Err.field-0.fault c.in-Err.ensures.lost c.in-Err.ensures.cause)))

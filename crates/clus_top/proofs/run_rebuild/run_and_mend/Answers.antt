@@ -20,7 +20,7 @@ returns-in-Ok-clause-halt g c =
     (λ x h. script_has (g.T.TextIn.left c.args.script.now) _ _
     (λ bytes spelt. image_has (g.I.ImageDev.size c.args.image) (g.I.ImageDev.told c.args.image) (g.I.ImageDev.told c.mend_image.result.image) _ _
     (λ old new e. run_halt bytes c.in-Ok.spelt spelt (g.I.ImageDev.size c.args.image) old new (g.T.TextIn.faults c.args.script.now) (g.T.TextIn.faults c.script_of.new.script)
-    (g.I.ImageDev.faults c.args.image) (g.I.ImageDev.faults c.mend_image.result.image) x e) h)
+    (g.I.ImageDev.faults c.args.image) (g.I.ImageDev.faults c.mend_image.result.image) (g.I.ImageDev.lost c.args.image) (g.I.ImageDev.lost c.mend_image.result.image) x e) h)
     c.in-Ok.ensures.spelt)
     c.mend_image.ensures.halt
 
@@ -28,5 +28,5 @@ pub returns-in-Err-clause-halt : goal.returns-in-Err-clause-halt
 returns-in-Err-clause-halt g c =
     script_has (g.T.TextIn.left c.args.script.now) _ _
     (λ bytes h. image_stays (g.I.ImageDev.size c.args.image) (g.I.ImageDev.told c.args.image) (g.I.ImageDev.told c.args.image) _ (g.met.I.ImageDev.counted c.args.image) refl
-    (λ bs count. inl (script_end bytes (g.I.ImageDev.size c.args.image) bs (g.T.TextIn.faults c.args.script.now) (g.T.TextIn.faults c.script_of.new.script) (g.I.ImageDev.faults c.args.image) (g.I.ImageDev.faults c.args.image) c.in-Err.status h)))
+    (λ bs count. inl (script_end bytes (g.I.ImageDev.size c.args.image) bs (g.T.TextIn.faults c.args.script.now) (g.T.TextIn.faults c.script_of.new.script) (g.I.ImageDev.faults c.args.image) (g.I.ImageDev.faults c.args.image) (g.I.ImageDev.lost c.args.image) (g.I.ImageDev.lost c.args.image) c.in-Err.status h)))
     c.in-Err.ensures.end

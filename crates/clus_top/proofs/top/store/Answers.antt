@@ -14,7 +14,7 @@ returns-in-Ok g c =
     let text = c.in-Ok.text.items in
     script_has (g.T.TextIn.left c.args.script.now) _ _
     (λ bytes. image_has size (g.I.ImageDev.told c.args.image) (g.I.ImageDev.told c.store_text-outcome.result.image) _ _
-    (store_ok size was now (g.T.TextIn.faults c.args.script.now) (g.T.TextIn.faults c.store_text-outcome.new.script) (g.I.ImageDev.faults c.args.image) (g.I.ImageDev.faults c.store_text-outcome.result.image)
+    (store_ok size was now (g.T.TextIn.faults c.args.script.now) (g.T.TextIn.faults c.store_text-outcome.new.script) (g.I.ImageDev.faults c.args.image) (g.I.ImageDev.faults c.store_text-outcome.result.image) (g.I.ImageDev.lost c.args.image) (g.I.ImageDev.lost c.store_text-outcome.result.image)
     (g.O.TextOut.faults c.args.out.now) (g.O.TextOut.faults c.tell_text-status.new.out) c.tell_text-status.result text c.tell_text-status.ensures.either
     (λ e. subst (λ (t : List ℕ). Appends was now t) c.as_slice.ensures.value (c.tell_text-status.ensures.all e)) (λ e. subst (λ (t : List ℕ). AppendsStart was now t) c.as_slice.ensures.value (c.tell_text-status.ensures.cut e))
     c.tell_text-status.ensures.fault c.args.file c.args.seq bytes))
@@ -26,6 +26,6 @@ returns-in-Err g c =
     script_has (g.T.TextIn.left c.args.script.now) _ _
     (λ bytes. image_has size (g.I.ImageDev.told c.args.image) (g.I.ImageDev.told c.store_text-outcome.result.image) _ _
     (store_told size (g.O.TextOut.written c.args.out.now) (g.O.TextOut.written c.tell-status.new.out) (g.T.TextIn.faults c.args.script.now) (g.T.TextIn.faults c.store_text-outcome.new.script)
-    (g.I.ImageDev.faults c.args.image) (g.I.ImageDev.faults c.store_text-outcome.result.image) (g.O.TextOut.faults c.args.out.now) (g.O.TextOut.faults c.tell-status.new.out) c.tell-status.result
+    (g.I.ImageDev.faults c.args.image) (g.I.ImageDev.faults c.store_text-outcome.result.image) (g.I.ImageDev.lost c.args.image) (g.I.ImageDev.lost c.store_text-outcome.result.image) (g.O.TextOut.faults c.args.out.now) (g.O.TextOut.faults c.tell-status.new.out) c.tell-status.result
     c.in-Err.fault c.tell-status.ensures.status c.tell-status.ensures.text c.tell-status.ensures.fault c.args.file c.args.seq bytes))
     (err_is c.store_text-outcome.result.outcome c.in-Err.fault _ c.in-Err.is c.store_text-outcome.ensures.end)

@@ -19,7 +19,7 @@ returns-in-Ok-clause-halt g c =
     (λ x h. script_has (g.T.TextIn.left c.args.script.now) _ _
     (λ bytes spelt. image_has (g.I.ImageDev.size c.args.image) (g.I.ImageDev.told c.args.image) (g.I.ImageDev.told c.live_image.result.image) _ _
     (λ old new e. run_halt c.args.job bytes c.in-Ok.spelt spelt (g.I.ImageDev.size c.args.image) old new (g.T.TextIn.faults c.args.script.now) (g.T.TextIn.faults c.script_of.new.script)
-    (g.I.ImageDev.faults c.args.image) (g.I.ImageDev.faults c.live_image.result.image) x e) h)
+    (g.I.ImageDev.faults c.args.image) (g.I.ImageDev.faults c.live_image.result.image) (g.I.ImageDev.lost c.args.image) (g.I.ImageDev.lost c.live_image.result.image) x e) h)
     c.in-Ok.ensures.spelt)
     c.live_image.ensures.halt
 
@@ -27,5 +27,5 @@ pub returns-in-Err-clause-halt : goal.returns-in-Err-clause-halt
 returns-in-Err-clause-halt g c =
     script_has (g.T.TextIn.left c.args.script.now) _ _
     (λ bytes h. image_stays (g.I.ImageDev.size c.args.image) (g.I.ImageDev.told c.args.image) (g.I.ImageDev.told c.args.image) _ c.blocks_are_counted.ensures refl
-    (λ bs count. script_end c.args.job bytes (g.I.ImageDev.size c.args.image) bs (g.T.TextIn.faults c.args.script.now) (g.T.TextIn.faults c.script_of.new.script) (g.I.ImageDev.faults c.args.image) (g.I.ImageDev.faults c.args.image) c.in-Err.status h))
+    (λ bs count. script_end c.args.job bytes (g.I.ImageDev.size c.args.image) bs (g.T.TextIn.faults c.args.script.now) (g.T.TextIn.faults c.script_of.new.script) (g.I.ImageDev.faults c.args.image) (g.I.ImageDev.faults c.args.image) (g.I.ImageDev.lost c.args.image) (g.I.ImageDev.lost c.args.image) c.in-Err.status h))
     c.in-Err.ensures.end

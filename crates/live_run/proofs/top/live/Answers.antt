@@ -14,7 +14,7 @@ returns-in-Ok g c =
     let text = c.in-Ok.text.items in
     script_has (g.T.TextIn.left c.args.script.now) _ _
     (λ bytes. image_has size (g.I.ImageDev.told c.args.image) (g.I.ImageDev.told c.live_script-outcome.result.image) _ _
-    (halt_ok c.args.job size was now (g.T.TextIn.faults c.args.script.now) (g.T.TextIn.faults c.live_script-outcome.new.script) (g.I.ImageDev.faults c.args.image) (g.I.ImageDev.faults c.live_script-outcome.result.image)
+    (halt_ok c.args.job size was now (g.T.TextIn.faults c.args.script.now) (g.T.TextIn.faults c.live_script-outcome.new.script) (g.I.ImageDev.faults c.args.image) (g.I.ImageDev.faults c.live_script-outcome.result.image) (g.I.ImageDev.lost c.args.image) (g.I.ImageDev.lost c.live_script-outcome.result.image)
     (g.O.TextOut.faults c.args.out.now) (g.O.TextOut.faults c.tell_text-status.new.out) c.tell_text-status.result text c.tell_text-status.ensures.either
     (λ e. subst (λ (t : List ℕ). Appends was now t) c.as_slice.ensures.value (c.tell_text-status.ensures.all e)) (λ e. subst (λ (t : List ℕ). AppendsStart was now t) c.as_slice.ensures.value (c.tell_text-status.ensures.cut e))
     c.tell_text-status.ensures.fault bytes))
@@ -29,6 +29,6 @@ returns-in-Err g c =
     let after = g.O.TextOut.faults c.tell_halt-status.new.out in
     script_has (g.T.TextIn.left c.args.script.now) _ _
     (λ bytes. image_has size (g.I.ImageDev.told c.args.image) (g.I.ImageDev.told c.live_script-outcome.result.image) _ _
-    (halt_told c.args.job size was now (g.T.TextIn.faults c.args.script.now) (g.T.TextIn.faults c.live_script-outcome.new.script) (g.I.ImageDev.faults c.args.image) (g.I.ImageDev.faults c.live_script-outcome.result.image) before after
+    (halt_told c.args.job size was now (g.T.TextIn.faults c.args.script.now) (g.T.TextIn.faults c.live_script-outcome.new.script) (g.I.ImageDev.faults c.args.image) (g.I.ImageDev.faults c.live_script-outcome.result.image) (g.I.ImageDev.lost c.args.image) (g.I.ImageDev.lost c.live_script-outcome.result.image) before after
     c.tell_halt-status.result c.in-Err.halt c.tell_halt-status.ensures bytes))
     (err_is c.live_script-outcome.result.outcome c.in-Err.halt _ c.in-Err.is c.live_script-outcome.ensures.halt)

@@ -9,6 +9,6 @@ returns g c =
     script_has (g.T.TextIn.left c.args.script.now) _ _
     (λ bytes. image_has size (g.I.ImageDev.told c.args.image) (g.I.ImageDev.told c.done.result.image) _ _
     (called (job_of c.args.words.now) size (g.O.TextOut.written c.args.out.now) (g.O.TextOut.written c.done.new.out) (g.T.TextIn.faults c.args.script.now) (g.T.TextIn.faults c.done.new.script)
-    (g.I.ImageDev.faults c.args.image) (g.I.ImageDev.faults c.done.result.image) (g.O.TextOut.faults c.args.out.now) (g.O.TextOut.faults c.done.new.out) c.done.result.status
+    (g.I.ImageDev.faults c.args.image) (g.I.ImageDev.faults c.done.result.image) (g.I.ImageDev.lost c.args.image) (g.I.ImageDev.lost c.done.result.image) (g.O.TextOut.faults c.args.out.now) (g.O.TextOut.faults c.done.new.out) c.done.result.status
     c.no_other_live_status_is_due.ensures c.good_live_runs_are_answered.ensures bytes))
     c.done.ensures

@@ -8,4 +8,4 @@ unreachable-requires c = used-there c.args.name c.args.table.now c.in_default.fi
 pub returns : goal.returns
 returns c =
     ap (set c.args.table.now c.in-Ok.i) c.recover.ensures
-    ∙ recovered-here c.args.name c.args.table.now c.in-Ok.i c.args.value c.index-table-i.result c.requires.ordered c.in-Ok.ensures c.requires.used
+    ∙ recovered-here c.args.name c.args.table.now c.in-Ok.i c.args.value c.args.valid c.index-table-i.result c.requires.ordered c.in-Ok.ensures c.requires.used

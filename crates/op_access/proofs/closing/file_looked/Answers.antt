@@ -10,7 +10,7 @@ use Rattle.op_law.specs.Rows.{answers}
 use Rattle.op_steps.specs.Chains.{behind_chain}
 use Rattle.op_steps.specs.Seeing.{file_seen}
 use Rattle.op_steps.proofs.Mapped.{mapped}
-use Rattle.op_freeing.proofs.ChainNumbers.{more_numbers}
+use Rattle.op_steps.proofs.FreeingChainNumbers.{more_numbers}
 use Rattle.op_access.specs.Seeing.{file_goes}
 use Rattle.op_access.proofs.closing.file_looked.Goals as goal
 

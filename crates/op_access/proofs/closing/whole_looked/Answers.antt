@@ -4,7 +4,7 @@ use Rattle.op_law.specs.declared.need.Plan.{Plan}
 use Rattle.op_law.specs.Channels.{close_plan}
 use Rattle.op_law.specs.Freeing.{SeenSpace, freeing_writes}
 use Rattle.op_steps.specs.Seeing.{file_seen}
-use Rattle.op_freeing.specs.Looking.{behind_space}
+use Rattle.op_steps.specs.Looking.{behind_space}
 use Rattle.op_access.proofs.closing.whole_looked.Goals as goal
 
 pub returns-in-Next : goal.returns-in-Next

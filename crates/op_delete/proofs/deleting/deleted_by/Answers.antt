@@ -6,7 +6,7 @@ use Rattle.op_law.specs.Behind.{blocks_alone}
 use Rattle.op_law.specs.Removing.{delete_plan}
 use Rattle.op_steps.specs.Names.{dir_seen}
 use Rattle.op_steps.specs.Seeing.{file_seen}
-use Rattle.op_freeing.specs.Looking.{space_seen}
+use Rattle.op_steps.specs.Looking.{space_seen}
 use Rattle.op_delete.specs.Deleting.{plan_by}
 use Rattle.op_delete.proofs.Found.{found_so}
 use Rattle.op_delete.proofs.deleting.deleted_by.Goals as goal

@@ -8,7 +8,7 @@ use Rattle.op_steps.specs.Chains.{behind_chain, FollowsChain}
 use Rattle.op_steps.specs.Names.{dir_seen}
 use Rattle.op_steps.specs.Seeing.{file_seen}
 use Rattle.op_steps.proofs.Mapped.{mapped}
-use Rattle.op_freeing.proofs.ChainNumbers.{more_numbers}
+use Rattle.op_steps.proofs.FreeingChainNumbers.{more_numbers}
 use Rattle.op_delete.specs.Deleting.{whole_goes, file_goes}
 use Rattle.op_delete.proofs.WholeDirs.{dir_whole}
 use Rattle.op_delete.proofs.deleting.file_looked.Goals as goal

@@ -10,7 +10,7 @@ use Rattle.op_law.specs.Removing.{delete_plan}
 use Rattle.op_steps.specs.Names.{dir_seen}
 use Rattle.op_steps.specs.Seeing.{file_seen}
 use Rattle.op_delete.specs.Deleting.{plan_by}
-use Rattle.op_freeing.specs.Looking.{space_seen, behind_space}
+use Rattle.op_steps.specs.Looking.{space_seen, behind_space}
 use Rattle.op_steps.proofs.Mapped.{mapped}
 use Rattle.op_delete.proofs.deleting.space_looked.Goals as goal
 

@@ -2,7 +2,7 @@ use Rattle.std.proofs.Common.{◌∙◌, not, ap}
 use Rattle.std.specs.Result.{result_ok}
 use Rattle.fx_dir.specs.Directory.{directory}
 use Rattle.fx_dir.specs.Moves.{key}
-use Rattle.fx_room.specs.Room.{has_room}
+use Rattle.fx_dir.specs.Room.{has_room}
 use Rattle.op_law.specs.Behind.{blocks_alone}
 use Rattle.op_steps.proofs.Rooms.{full_by, ok_of}
 use Rattle.op_steps.proofs.names.is_full.Goals as goal

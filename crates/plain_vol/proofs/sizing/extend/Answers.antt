@@ -9,5 +9,5 @@ use Rattle.plain_vol.proofs.sizing.extend.Goals as goal
 pub charge-requires : goal.charge-requires
 charge-requires c =
     let P : Result Sizing Refusal → Type 0 = λ o. IfOk o (λ (s : Sizing). s.change ≤ 16 * header_most) in
-    let small : c.in-Ok.sizing.change ≤ 16 * header_most = subst P c.in-Ok.is c.in_ok-sizing.ensures.small in
+    let small : c.in-Ok.sizing.change ≤ 16 * header_most = subst P c.in-Ok.is c.larger.ensures.small in
     usage_room c.args.cat c.in-Ok.sizing.change c.requires.cat (omega (arith, small))

@@ -3,7 +3,8 @@ use Rattle.std.proofs.Common.{◌∙◌, Err, length, take, ap, arith}
 use Rattle.std.proofs.lemmas.Result.{err_from_is_err_and}
 use Rattle.base_words.proofs.ListWrites.{length-written}
 use Rattle.vol_rebuild.specs.Places.{moved_at}
-use Rattle.vol_repair.proofs.Stepping.{on_volume, move_failed, move_made, move_told, all_made}
+use Rattle.vol_rebuild.proofs.Stepping.{on_volume, move_made}
+use Rattle.vol_repair.proofs.Stepping.{move_failed, move_told, all_made}
 use Rattle.vol_repair.proofs.making.make_moves.Goals as goal
 
 pub overflow_cast-lbn : goal.overflow_cast-lbn

@@ -15,4 +15,5 @@ loop-at-preserved c =
       room = c.push_reserved.ensures.capacity ∙ h.room;
       same = ap (λ m. m.blocks) called ∙ h.same;
       later = omega (arith, h.later, c.next_failure.ensures.later);
+      kept = ap (λ m. m.lost) called ∙ h.kept;
     }

@@ -1,7 +1,7 @@
 use Rattle.std.proofs.Common.{◌≡◌, drop}
 use Rattle.dlm_core.specs.States.{IsShaped}
-use Rattle.dlm_core.specs.Recoveries.{all_asked_again}
+use Rattle.dlm_core.specs.Recoveries.{block_for, all_asked_again}
 use Rattle.dlm_core.proofs.cluster.Cluster.ask_all_again.Given as goal
 
 abbrev pub invariant-loop-h : goal.invariant-loop-h
-invariant-loop-h l = record { shape : IsShaped l.self; state : all_asked_again l.blocks (drop l.h-index l.holds) l.self ≡ all_asked_again l.blocks l.holds l.fn.self }
+invariant-loop-h l = record { shape : IsShaped l.self; state : all_asked_again (block_for l.rule l.holds l.blocks) (drop l.h-index l.holds) l.self ≡ all_asked_again (block_for l.rule l.holds l.blocks) l.holds l.fn.self }

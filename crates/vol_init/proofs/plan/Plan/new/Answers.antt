@@ -1,6 +1,6 @@
 use Rattle.std.proofs.Common.{◌∙◌, Ok, refl, ap}
 use Rattle.base_words.specs.Packing.{over}
-use Rattle.fx_dir.specs.Writing.{name_of}
+use Rattle.fx_dir.specs.Writing.{name_of, packed}
 use Rattle.vol_init.proofs.EntryLemmas.{none-over}
 use Rattle.vol_init.proofs.plan.Plan.new.Goals as goal
 
@@ -19,6 +19,8 @@ returns-clause-sound c =
       main_count = c.in_ok-main.ensures.count;
       main = c.in_ok-main.ensures.read;
       listed = c.in_ok-main.ensures.listed;
+      main_packed = c.in_ok-main.ensures.written;
       lost_count = c.in_ok-lost.ensures.count;
       lost = c.in_ok-lost.ensures.read ∙ ap (λ es. Ok es) none;
+      lost_packed = c.in_ok-lost.ensures.written ∙ ap (packed c.args.layout.cluster) none;
     }

@@ -1,0 +1,4 @@
+mod Chunks
+mod Holding
+mod Options
+mod PieceByPiece

@@ -1,3 +1,0 @@
-pub mod Committed
-pub mod Guarded
-pub mod Heads

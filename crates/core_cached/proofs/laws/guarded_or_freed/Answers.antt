@@ -1,5 +1,0 @@
-use Rattle.core_cached.proofs.Heads.{guarded_or_freed}
-use Rattle.core_cached.proofs.laws.guarded_or_freed.Goals as goal
-
-pub returns : goal.returns
-returns c = guarded_or_freed

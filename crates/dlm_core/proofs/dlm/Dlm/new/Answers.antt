@@ -1,5 +1,0 @@
-use Rattle.dlm_core.proofs.Sending.{start-sound}
-use Rattle.dlm_core.proofs.dlm.Dlm.new.Goals as goal
-
-pub invariant_of-result : goal.invariant_of-result
-invariant_of-result c = rw c.in_ok-new.ensures (start-sound c.args.nodes c.requires)

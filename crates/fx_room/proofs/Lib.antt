@@ -1,5 +1,0 @@
-pub mod Counting
-pub mod Walks
-pub mod Streams
-pub mod Plenty
-pub mod Tallying

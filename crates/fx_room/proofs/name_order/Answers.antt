@@ -1,8 +1,0 @@
-use Rattle.fx_dir.proofs.Rising.{cmp-lower, cmp-equal}
-use Rattle.fx_room.proofs.name_order.Goals as goal
-
-pub returns : goal.returns
-returns c = record {
-  lower = cmp-lower c.args.a.now c.args.b.now c.cmp.result c.cmp.ensures;
-  equal = cmp-equal c.args.a.now c.args.b.now c.cmp.result c.cmp.ensures;
-}

@@ -1,4 +1,0 @@
-pub mod Filling
-pub mod Plenty
-pub mod Room
-pub mod Walk

@@ -1,5 +1,0 @@
-use Rattle.op_freeing.proofs.GoneSteps.{gone_fills}
-use Rattle.op_freeing.proofs.gone_laws.gone_fills.Goals as goal
-
-pub returns : goal.returns
-returns c = gone_fills

@@ -1,5 +1,0 @@
-use Rattle.op_freeing.proofs.GoneSteps.{gone_leaves}
-use Rattle.op_freeing.proofs.gone_laws.gone_leaves.Goals as goal
-
-pub returns : goal.returns
-returns c = gone_leaves

@@ -1,6 +1,0 @@
-use Rattle.vol_under.specs.Chains.{anywhere}
-use Rattle.op_freeing.proofs.Steps.{freeing_steps}
-use Rattle.op_freeing.proofs.laws.freeing_steps.Goals as goal
-
-pub returns : goal.returns
-returns c = freeing_steps anywhere

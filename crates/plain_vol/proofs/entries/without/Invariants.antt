@@ -1,6 +1,0 @@
-use Rattle.std.proofs.Common.{◌≡◌, take}
-use Rattle.plain_rules.specs.Directories.{without}
-use Rattle.plain_vol.proofs.entries.without.Given as goal
-
-abbrev pub invariant-loop-e : goal.invariant-loop-e
-invariant-loop-e l = l.left ≡ without l.name l.ver (take l.e-index l.e-items)
