@@ -1,0 +1,9 @@
+pub mod Copies
+pub mod Fitting
+pub mod Growing
+pub mod Lines
+pub mod Reading
+pub mod Shows
+pub mod Stepping
+pub mod Telling
+pub mod Traces

@@ -1,0 +1,61 @@
+-- What a trace of a run is, and what a call of the program answers.
+use Rattle.std.specs.Prelude.{◌≡◌, ◌++◌, ℕ, List, [], ◌∷◌, Option, Some, None}
+use Rattle.base_words.specs.Fields.{Block}
+use Rattle.base_words.specs.Faults.{Rose}
+use Rattle.plain_cat.specs.declared.script.Script.{Script}
+use Rattle.run_engine.specs.Calls.{Given}
+use Rattle.run_engine.specs.Inputs.{OfScript, OfImage}
+use Rattle.run_engine.specs.Scripts.{IsScriptOf}
+use Rattle.run_engine.specs.Statuses.{status_code}
+use Rattle.run_engine.specs.Stops.{report_text}
+use Rattle.run_engine.specs.Texts.{IsPlainText, Writes, IsGood, IsAccepted}
+use Rattle.run_engine.specs.declared.status.Status.{Status}
+use Rattle.run_engine.specs.declared.status.Status.TheVariants as ended
+use Rattle.clus_top.specs.Words.{Wanted, Run}
+use Rattle.clus_top.specs.Runs.{HasRunToEnd}
+use Rattle.clus_top.specs.Statuses.{IsDue}
+use Rattle.clus_top.specs.Verdicts.{IsAlone, AnswersGood}
+use Rattle.run_trace.specs.Steps.{walk_text}
+
+-- The text is the trace of a run: the lines of the walk that leads from the volume as it is mounted to the world in which every node is
+-- over, and behind them the report of this very run.
+pub record IsTraced (IsGiven : Script → Type 0) (bs : List Block) (text : List ℕ) : Type 0 where
+  -- what the run would leave on an image: it is written nowhere
+  pub end : List Block
+  pub ran : HasRunToEnd IsGiven bs end
+  pub written : text ≡ walk_text ran.script.plays ran.walked.turns ran.start ++ report_text ran.world.history ran.after
+
+-- the trace of the script that these bytes spell
+pub record IsTracedOf (bytes : List ℕ) (size : ℕ) (old new : List Block) (text : List ℕ) : Type 0 where
+  pub good : IsGood bytes
+  pub accepted : IsAccepted size old
+  pub traced : IsTraced (IsScriptOf bytes) old text
+  pub left : new ≡ old
+
+-- the words ask for a trace where there are none
+abbrev pub wanted_by : List (List ℕ) → Option Wanted
+wanted_by [] = Some Run
+wanted_by (w ∷ ws) = None
+
+-- What a call answers. The status is due exactly as that of a run; a fault comes only if the count of that very object rose. With status 0
+-- the trace was written, with a fault of the sink first bytes of it, and else the text of the status. The image has the blocks that it had.
+pub record IsTraceAnswer (wanted : Option Wanted) (bytes : List ℕ) (size : ℕ) (old new : List Block) (was now : Option (List ℕ)) (read reading had has before after : ℕ) (s : Status) : Type 0 where
+  pub due : IsDue wanted bytes size old s
+  pub script_fault : s ≡ ended.ScriptFault → Rose read reading
+  pub image_fault : s ≡ ended.ImageFault → Rose had has
+  pub out_fault : s ≡ ended.OutFault → Rose before after
+  pub written : Writes (IsTraced (IsScriptOf bytes) old) IsPlainText old was now before after s
+  pub left : new ≡ old
+
+-- and that of the statuses but for faults and want of memory no other one is due, so that a good script on an accepted volume is traced
+pub record IsTraceCall (wanted : Option Wanted) (bytes : List ℕ) (size : ℕ) (old new : List Block) (was now : Option (List ℕ)) (read reading had has before after : ℕ) (s : Status) : Type 0 where
+  pub answer : IsTraceAnswer wanted bytes size old new was now read reading had has before after s
+  pub alone : IsAlone wanted bytes size old s
+  pub answered : AnswersGood wanted bytes size old s
+
+-- A call of the program ends with a status, and the number is that of the status. The rest is what the top call answers.
+pub record IsTraceEnd (g : Given) (written : Option (List ℕ)) (image : Option (List Block)) (script_faults image_faults out_faults number : ℕ) : Type 0 where
+  pub status : Status
+  pub number_is : number ≡ status_code status
+  pub call : OfScript g.left (λ bytes. OfImage g.size g.told image (λ old new.
+      IsTraceCall (wanted_by g.words) bytes g.size old new g.written written g.script_faults script_faults g.image_faults image_faults g.out_faults out_faults status))
