@@ -1,7 +1,6 @@
 -- What the value block of a name will be once an owner's calls on their way are taken.
-use Rattle.std.proofs.Common.{◌≡◌, ◌≢◌, ◌==◌, ◌&&◌, ◌++◌, ◌⊎◌, inl, inr, ℕ, Bool, true, false, List, [], ◌∷◌, Option, Some, None, map, refl, arith, ap, sym, subst, ◌∙◌, if◌then◌else◌, option_and_then, Contains}
+use Rattle.std.proofs.Common.{◌≡◌, ◌≢◌, ◌++◌, ◌⊎◌, inl, inr, ℕ, Bool, true, false, List, [], ◌∷◌, Option, Some, None, map, refl, arith, ap, sym, subst, ◌∙◌, if◌then◌else◌, option_and_then, Contains}
 use Rattle.plain_cat.specs.declared.mode.Mode.{Mode}
-use Rattle.plain_cat.specs.declared.mode.Mode.TheVariants.{NL, CR, CW, PR, PW, EX}
 use Rattle.plain_cat.specs.Modes.{compatible_modes}
 use Rattle.lock_db.specs.declared.name.Owner.{Owner}
 use Rattle.lock_db.specs.Names.{same_owner}
@@ -12,7 +11,7 @@ use Rattle.lock_db.proofs.Owners.{same_owner-same, same_owner-refl}
 use Rattle.dlm_core.specs.declared.messages.Letter.{Letter}
 use Rattle.dlm_core.specs.declared.messages.Letter.TheVariants.{Ask, Drop, Grant, Claim}
 use Rattle.dlm_core.specs.declared.messages.Message.{Message}
-use Rattle.dlm_core.specs.Modes.{is_across, is_lowering, writes, lowers}
+use Rattle.dlm_core.specs.Modes.{is_across, is_lowering, writes}
 use Rattle.dlm_core.specs.Recoveries.{is_strong}
 use Rattle.dlm_core.specs.Lanes.{lowered, raises, last_ask, MayWait}
 use Rattle.dlm_core.proofs.Modes.{raises-not_lower}

@@ -1,6 +1,5 @@
 -- What may be read once a message has arrived.
-use Rattle.std.proofs.Common.{◌≡◌, ◌≢◌, ◌==◌, ◌&&◌, ◌||◌, ◌++◌, ◌⊎◌, inl, inr, ℕ, ◌-◌, Bool, true, false, not, List, [], ◌∷◌, Option, Some, None, IsSome, is_some, map, filter, find, length, set, refl, arith, ap, sym, subst, ◌∙◌, if◌then◌else◌, option_and_then, option_map, replicate, append_assoc, Contains, MatchBool}
-use Rattle.std.specs.List.{list_all, list_any}
+use Rattle.std.proofs.Common.{◌≡◌, ◌≢◌, ◌==◌, ◌&&◌, ◌++◌, ◌⊎◌, inl, inr, ℕ, Bool, true, false, not, List, [], ◌∷◌, Option, Some, None, IsSome, is_some, find, length, refl, arith, ap, sym, subst, ◌∙◌, if◌then◌else◌, option_and_then, replicate, append_assoc, Contains, MatchBool}
 use Rattle.std.proofs.lemmas.List.{append-nil}
 use Rattle.std.proofs.lemmas.List.Elements.{filter-append}
 use Rattle.plain_cat.specs.declared.mode.Mode.{Mode}
@@ -11,12 +10,12 @@ use Rattle.lock_db.specs.declared.askers.Standing.TheVariants.{Granted}
 use Rattle.lock_db.specs.declared.askers.Asker.{Asker}
 use Rattle.lock_db.specs.declared.resource.Resource.{Resource}
 use Rattle.lock_db.specs.Names.{is_same, same_owner}
-use Rattle.lock_db.specs.Queues.{held, is_queued, wanted, is_writing, standing_of, mode_of, lock_of, without, settled}
+use Rattle.lock_db.specs.Queues.{held, is_writing, standing_of, mode_of, lock_of, without, settled}
 use Rattle.lock_db.specs.Resources.{fresh, is_used, is_writing_held, conversion_writes, mode_held, written, released_of}
-use Rattle.lock_db.specs.Tables.{resource_at, IsTable, asked, converted, released, recovered}
-use Rattle.lock_db.specs.Laws.{LeavesOthers, BlockStays, BlockIs, somebody}
-use Rattle.lock_db.proofs.Lists.{and-left, and-right}
-use Rattle.lock_db.proofs.Owners.{same_owner-same, same_owner-refl, Served}
+use Rattle.lock_db.specs.Tables.{resource_at, asked, converted, released}
+use Rattle.lock_db.specs.Laws.{BlockStays, BlockIs}
+use Rattle.lock_db.proofs.Lists.{and-right}
+use Rattle.lock_db.proofs.Owners.{same_owner-same, Served}
 use Rattle.lock_db.proofs.Names.{is_same-same, is_same-refl}
 use Rattle.lock_db.proofs.Steps.{lock-is}
 use Rattle.lock_db.proofs.Blocks.{requests-keep, conversions-write, released-at}
@@ -25,27 +24,26 @@ use Rattle.dlm_core.specs.declared.messages.Letter.{Letter}
 use Rattle.dlm_core.specs.declared.messages.Letter.TheVariants.{Ask, Drop, Grant, Claim}
 use Rattle.dlm_core.specs.declared.messages.Message.{Message}
 use Rattle.dlm_core.specs.declared.holds.Hold.{Hold}
-use Rattle.dlm_core.specs.declared.blocks.Seen.{Seen}
 use Rattle.dlm_core.specs.declared.blocks.Version.{Version}
 use Rattle.dlm_core.specs.declared.queue.Waiter.{Waiter}
-use Rattle.dlm_core.specs.Modes.{is_lowering, lowers, crosses, writes}
+use Rattle.dlm_core.specs.Modes.{is_lowering, crosses, writes}
 use Rattle.dlm_core.specs.States.{State, home, recovery, table_at, told_at, is_at, hold_at, noted, is_between, past_first}
 use Rattle.dlm_core.specs.Steps.{is_call, stands_as, ask_made, put_last, drop_made, versions_after, taken_from, taken, granted}
 use Rattle.dlm_core.specs.Recoveries.{is_strong}
-use Rattle.dlm_core.specs.Lanes.{is_about, has_kind, is_kind, letters_of, IsLane, LaneOf, standing_at, waiters_of, queued_as, raises, is_addressed, IsSound}
+use Rattle.dlm_core.specs.Lanes.{is_about, has_kind, is_kind, letters_of, IsLane, LaneOf, standing_at, waiters_of, queued_as, raises, IsSound}
 use Rattle.dlm_core.specs.Lanes.IsLane.{Sends, Stands, Comes}
 use Rattle.dlm_core.proofs.Ahead.{marked, OK, wrote_then, letters, next_lock, ahead, Val, Stays, step-val, gone-val, raise-writes, raise-keeps, lower-writes}
 use Rattle.dlm_core.proofs.Mails.{mails-first, mails-past}
 use Rattle.dlm_core.proofs.Modes.{raises-not_lower, raises-not_across, lowering-not_across}
 use Rattle.dlm_core.proofs.Beliefs.{at-owner, at-name, noted-here, noted-other}
-use Rattle.dlm_core.proofs.Others.{can-mode, can-lock, fits-so, ask-made, drop-is, used_made}
+use Rattle.dlm_core.proofs.Others.{can-mode, can-lock, fits-so, ask-made, used_made}
 use Rattle.dlm_core.proofs.Growing.{Head, stands-idle, some-standing, wanted-queued}
 use Rattle.dlm_core.proofs.Growing.Head.{Raise, Lower, Leave}
 use Rattle.dlm_core.proofs.Safety.{held-stands}
 use Rattle.dlm_core.proofs.Takes.{Call, called_so, told-here, told-other, call-sound, served-sound}
 use Rattle.dlm_core.proofs.Passing.{kind-itself, First, call-first, ask-call, drop-call, can-drop, head-drop}
 use Rattle.dlm_core.proofs.Sending.{not-about}
-use Rattle.dlm_core.proofs.Tracing.{Each, each-weaker, Says}
+use Rattle.dlm_core.proofs.Tracing.{Each, Says}
 use Rattle.dlm_core.proofs.Truth.{each-past, each-find}
 use Rattle.dlm_core.proofs.Holding.{calls_of, lock_in, calls_in, block_in, seen_block, ValOf, GrantOK, Values, val-same, alone, map-none, served-values}
 

@@ -13,10 +13,11 @@ use Rattle.dlm_core.specs.declared.messages.Letter.TheVariants.{Ask, Drop, Grant
 use Rattle.dlm_core.specs.declared.messages.Message.{Message}
 use Rattle.dlm_core.specs.declared.holds.Hold.{Hold}
 use Rattle.dlm_core.specs.declared.queue.Waiter.{Waiter}
+use Rattle.dlm_core.specs.declared.blocks.Version.{Version}
 use Rattle.dlm_core.specs.declared.events.Event.{Event}
 use Rattle.dlm_core.specs.declared.events.Event.TheVariants as event
 use Rattle.dlm_core.specs.Modes.{lowers, crosses}
-use Rattle.dlm_core.specs.States.{State, home, recovery, table_at, told_at, hold_at, asked_hold, is_between, past_first, put_before}
+use Rattle.dlm_core.specs.States.{State, home, recovery, table_at, told_at, hold_at, asked_hold, is_between, past_first, put_before, version_at}
 use Rattle.dlm_core.specs.Steps.{is_call, call_to, called, ask_after, drop_after, ask_made, drop_made, put_last, goes_before, versions_after, with_table, is_served, grant_of, grants_of, served, taken_from, taken}
 use Rattle.dlm_core.specs.Events.{arrived, received, pass_after, names_living, played, after}
 use Rattle.dlm_core.specs.Lanes.{IsSound, standing_at}
@@ -91,21 +92,21 @@ module _ {X : Type 0} where
   each-passing p (x ∷ xs) =
       (elim (p x) as (λ b. p x ≡ b → Each (λ (y : X). p y ≡ true) (cond b (x ∷ filter p xs) (filter p xs))) [ true ↦ λ e. (e, each-passing p xs) | false ↦ λ e. each-passing p xs ]) refl
 
-grants-owed : (s : State) (e : Event) (m : Message) (z : State) (ws : List Waiter) → z.nodes ≡ s.nodes → z.tables ≡ (after e s).tables → call_in e s ≡ Some m → Each (Passes s m z) ws → Each (λ (w : Waiter). is_served z w ≡ true) ws
+grants-owed : (s : State) (e : Event) (m : Message) (z : State) (ws : List Waiter) → z.nodes ≡ s.nodes → z.tables ≡ (after e s).tables → z.versions ≡ (after e s).versions → call_in e s ≡ Some m → Each (Passes s m z) ws → Each (λ (w : Waiter). is_served z w ≡ true) ws
     → Each (Stood z) (map (grant_of z) ws) → Each (IsOwed s e) (map (grant_of z) ws)
-grants-owed s e m z [] en et c a b d = tt
-grants-owed s e m z (w ∷ ws) en et c a b d =
+grants-owed s e m z [] en et ev c a b d = tt
+grants-owed s e m z (w ∷ ws) en et ev c a b d =
     let now : Gave z.nodes z.tables w.owner w.name w.mode (told_at w.name z).value (told_at w.name z).valid = record { granted = d.0; block = refl; mark = refl } in
     let there : Gave s.nodes (after e s).tables w.owner w.name w.mode (told_at w.name z).value (told_at w.name z).valid =
     subst (λ (ts : List (List Resource)). Gave s.nodes ts w.owner w.name w.mode (told_at w.name z).value (told_at w.name z).valid) et
     (subst (λ (n : ℕ). Gave n z.tables w.owner w.name w.mode (told_at w.name z).value (told_at w.name z).valid) en now) in
-    (record { call = m; delivers = c; on_name = sym (a.0.1 b.0); asks = a.0.0; gave = there }, grants-owed s e m z ws en et c a.1 b.1 d.1)
+    (record { call = m; delivers = c; on_name = sym (a.0.1 b.0); asks = a.0.0; gave = there; version = ap (λ (vs : List Version). version_at w.name vs) ev }, grants-owed s e m z ws en et ev c a.1 b.1 d.1)
 
 served-owed : (s : State) (e : Event) (m : Message) (z : State) → z.nodes ≡ s.nodes → call_in e s ≡ Some m → z.mail ≡ left_by e s → Each (Passes s m z) z.queue → IsSound (served z) → SendsByCall s e (served z)
 served-owed s e m z en c f a i = record {
   sent = grants_of z z.queue;
   sends = ap (λ (ms : List Message). ms ++ grants_of z z.queue) f;
-  given = λ q. grants-owed s e m z (filter (is_served z) z.queue) en (ap (λ (y : State). y.tables) q) c (each-filter (Passes s m z) (is_served z) z.queue a) (each-passing (is_served z) z.queue)
+  given = λ q. grants-owed s e m z (filter (is_served z) z.queue) en (ap (λ (y : State). y.tables) q) (ap (λ (y : State). y.versions) q) c (each-filter (Passes s m z) (is_served z) z.queue a) (each-passing (is_served z) z.queue)
       (each-stood (served z) z.mail (grants_of z z.queue) i refl);
 }
 

@@ -1,7 +1,6 @@
 -- What may be read once a recovery has ended.
-use Rattle.std.proofs.Common.{◌≡◌, ◌≢◌, ◌==◌, ◌&&◌, ◌||◌, ◌++◌, ◌⊎◌, inl, inr, ℕ, ◌-◌, Bool, true, false, not, List, [], ◌∷◌, Option, Some, None, is_some, map, filter, find, length, ◌≤◌, refl, arith, ap, sym, subst, ◌∙◌, cond, if◌then◌else◌, unwrap_or, option_and_then, option_map, append_assoc, Contains}
+use Rattle.std.proofs.Common.{◌≡◌, ◌≢◌, ◌&&◌, ◌++◌, ℕ, Bool, true, false, not, List, [], ◌∷◌, Option, Some, None, is_some, filter, find, length, ◌≤◌, refl, ap, sym, subst, ◌∙◌, cond, if◌then◌else◌, unwrap_or, option_and_then, append_assoc, Contains}
 use Rattle.std.specs.List.{list_all, list_any}
-use Rattle.std.proofs.lemmas.List.{append-nil}
 use Rattle.std.proofs.lemmas.List.Elements.{filter-append}
 use Rattle.plain_cat.specs.declared.mode.Mode.{Mode}
 use Rattle.lock_db.specs.declared.name.LockName.{LockName}
@@ -11,11 +10,11 @@ use Rattle.lock_db.specs.declared.askers.Asker.{Asker}
 use Rattle.lock_db.specs.declared.resource.Resource.{Resource}
 use Rattle.lock_db.specs.Names.{is_same, same_owner}
 use Rattle.lock_db.specs.Queues.{held, standing_of, mode_of}
-use Rattle.lock_db.specs.Resources.{fresh, is_used, is_writing_held, conversion_writes}
+use Rattle.lock_db.specs.Resources.{fresh, is_used, is_writing_held}
 use Rattle.lock_db.specs.Tables.{resource_at, IsTable, recovered}
 use Rattle.lock_db.specs.Laws.{LeavesOthers}
 use Rattle.lock_db.proofs.Lists.{and-left, and-right, and-both, not-true, or-false_left, or-false_right, list_all-head, list_all-tail, list_all-find, list_all-every, list_all-passing, list_all-weaker, list_all-filter, find-passes, list_any-none}
-use Rattle.lock_db.proofs.Owners.{same_owner-same, same_owner-refl}
+use Rattle.lock_db.proofs.Owners.{same_owner-refl}
 use Rattle.lock_db.proofs.Names.{is_same-same, is_same-refl}
 use Rattle.lock_db.proofs.Blocks.{recovered-leaves, recovered-at}
 use Rattle.dlm_core.specs.declared.messages.Letter.{Letter}
@@ -28,12 +27,12 @@ use Rattle.dlm_core.specs.declared.blocks.Version.{Version}
 use Rattle.dlm_core.specs.declared.queue.Waiter.{Waiter}
 use Rattle.dlm_core.specs.declared.rules.BlockRule.{BlockRule}
 use Rattle.dlm_core.specs.declared.rules.BlockRule.TheVariants.{OfHolders}
-use Rattle.dlm_core.specs.Modes.{is_lowering, is_across, lowers, crosses, writes}
+use Rattle.dlm_core.specs.Modes.{is_lowering, crosses, writes}
 use Rattle.dlm_core.specs.States.{State, home, master, recovery, table_at, told_at, is_at, hold_at, is_between, past_first}
 use Rattle.dlm_core.specs.Steps.{is_call, stands_as, ask_made, put_last, drop_made, with_table, versions_after, grants_of, served, taken_from, taken, taken_all}
 use Rattle.dlm_core.specs.Recoveries.{is_of_recovery, is_name_of, is_with, is_strong, latest, unmarked, kept_by, held_block, block_for, again, made_again, reclaimed_lock, reclaimed, asked_again, all_asked_again, closed, ended, is_open, ended_if, all_ended}
 use Rattle.dlm_core.specs.Restored.{has_lock}
-use Rattle.dlm_core.specs.Lanes.{is_about, is_kind, letters_of, has_kind, IsLane, LaneOf, MayWait, last_ask, lowered, standing_at, waiters_of, raises, is_kept, is_addressed, each_once, IsSound}
+use Rattle.dlm_core.specs.Lanes.{is_about, is_kind, letters_of, has_kind, IsLane, LaneOf, MayWait, last_ask, lowered, standing_at, waiters_of, is_kept, is_addressed, each_once, IsSound}
 use Rattle.dlm_core.specs.Lanes.IsLane.{Sends, Stands, Comes}
 use Rattle.dlm_core.proofs.Ahead.{marked, OK, wrote_then, letters, next_lock, ahead, Val, gone-val, unmarked-val, weak-quiet, conv-writes}
 use Rattle.dlm_core.proofs.Modes.{raises-not_lower}
@@ -41,7 +40,6 @@ use Rattle.dlm_core.proofs.Safety.{held-stands}
 use Rattle.dlm_core.proofs.Beliefs.{at-name, at-itself, at-turned, once-filter}
 use Rattle.dlm_core.proofs.Restoring.{nothing_of, hold-none}
 use Rattle.dlm_core.proofs.Others.{can-mode, used_made}
-use Rattle.dlm_core.proofs.Serving.{eq-self}
 use Rattle.dlm_core.proofs.Takes.{Call, called_so, told-here, told-other, call-sound, served-sound}
 use Rattle.dlm_core.proofs.Passing.{CanAsk, call-first, ask-call, head-ask, ask-stands, call-again, taken-sound}
 use Rattle.dlm_core.proofs.Dying.{kept-where}
@@ -50,7 +48,7 @@ use Rattle.dlm_core.proofs.Tracing.{Each, each-append, Says}
 use Rattle.dlm_core.proofs.Trails.{of-recovery, ended-stays, recovery-is}
 use Rattle.dlm_core.proofs.Sending.{not-about}
 use Rattle.dlm_core.proofs.Holding.{calls_of, lock_in, calls_in, block_in, seen_block, ValOf, GrantOK, Values, val-same, served-values}
-use Rattle.dlm_core.proofs.Arrivals.{zeros, block_at1, lock_at1, Made1, unused, call-values, ask-block, ask-made1, first-calls, taken-values}
+use Rattle.dlm_core.proofs.Arrivals.{zeros, block_at1, Made1, unused, call-values, ask-block, ask-made1, first-calls, taken-values}
 
 true-false : true ≡ false → ⊥
 true-false e = cc

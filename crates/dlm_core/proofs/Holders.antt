@@ -1,5 +1,5 @@
 -- Claimed locks keep what one of their owners has seen.
-use Rattle.std.proofs.Common.{◌≡◌, ◌≢◌, ◌&&◌, ◌||◌, ◌⊎◌, ◌≤◌, inl, inr, ℕ, nat_lt, Bool, true, false, List, [], ◌∷◌, Option, Some, None, is_some, filter, find, refl, arith, ap, sym, subst, ◌∙◌, cond, if◌then◌else◌, Contains}
+use Rattle.std.proofs.Common.{◌≡◌, ◌&&◌, ◌||◌, ◌⊎◌, ◌≤◌, inl, inr, ℕ, nat_lt, Bool, true, false, List, [], ◌∷◌, Option, Some, None, is_some, filter, find, refl, arith, ap, sym, subst, ◌∙◌, cond, Contains}
 use Rattle.std.specs.List.{list_any}
 use Rattle.std.proofs.lemmas.Bool.Decides.{nat_tests}
 use Rattle.plain_cat.specs.declared.mode.Mode.{Mode}
@@ -17,7 +17,7 @@ true-false : true ≡ false → ⊥
 true-false e = cc
 
 module _ {X : Type 0} where
-  find-contains : (p : X → Bool) (xs : List X) (a : X) → find p xs ≡ Some a → Contains xs a
+  pub find-contains : (p : X → Bool) (xs : List X) (a : X) → find p xs ≡ Some a → Contains xs a
   find-contains p [] a f = cc
   find-contains p (x ∷ xs) a f =
       (elim (p x) as (λ b. cond b (Some x) (find p xs) ≡ Some a → Contains (x ∷ xs) a) [
@@ -26,7 +26,7 @@ module _ {X : Type 0} where
       ]) f
 
   -- what passes is an element of the filter, and the other way round
-  filter-contains : (p : X → Bool) (xs : List X) (a : X) → Contains (filter p xs) a → Contains xs a × (p a ≡ true)
+  pub filter-contains : (p : X → Bool) (xs : List X) (a : X) → Contains (filter p xs) a → Contains xs a × (p a ≡ true)
   filter-contains p [] a c = absurd (none a c)
     where
       none : (a : X) → Contains [] a → ⊥
@@ -40,7 +40,7 @@ module _ {X : Type 0} where
         | false ↦ λ e k. let r = filter-contains p xs a k in (Contains-later x xs a r.0, r.1)
       ]) refl c
 
-  contains-filter : (p : X → Bool) (xs : List X) (a : X) → p a ≡ true → Contains xs a → Contains (filter p xs) a
+  pub contains-filter : (p : X → Bool) (xs : List X) (a : X) → p a ≡ true → Contains xs a → Contains (filter p xs) a
   contains-filter p [] a e c = c
   contains-filter p (x ∷ xs) a e c =
       (elim (Contains-cases x xs a c) [

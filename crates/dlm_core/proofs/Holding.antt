@@ -1,6 +1,5 @@
 -- What may be read of each name's value block, in a state and behind each event.
-use Rattle.std.proofs.Common.{◌≡◌, ◌≢◌, ◌==◌, ◌&&◌, ◌||◌, ◌++◌, ◌⊎◌, inl, inr, ℕ, Bool, true, false, not, List, [], ◌∷◌, Option, Some, None, is_some, map, filter, find, refl, arith, ap, sym, subst, ◌∙◌, if◌then◌else◌, option_and_then, replicate, append_assoc, Contains}
-use Rattle.std.specs.List.{list_all, list_any}
+use Rattle.std.proofs.Common.{◌≡◌, ◌≢◌, ◌++◌, ℕ, Bool, true, false, List, [], ◌∷◌, Option, Some, None, map, filter, refl, ap, sym, subst, ◌∙◌, option_and_then, Contains}
 use Rattle.std.proofs.lemmas.List.{append-nil}
 use Rattle.std.proofs.lemmas.List.Elements.{filter-append}
 use Rattle.plain_cat.specs.declared.mode.Mode.{Mode}
@@ -9,36 +8,25 @@ use Rattle.lock_db.specs.declared.name.LockName.{LockName}
 use Rattle.lock_db.specs.declared.name.Owner.{Owner}
 use Rattle.lock_db.specs.declared.askers.Standing.{Standing}
 use Rattle.lock_db.specs.declared.askers.Standing.TheVariants.{Granted}
-use Rattle.lock_db.specs.declared.resource.Resource.{Resource}
-use Rattle.lock_db.specs.Names.{is_same, same_owner}
-use Rattle.lock_db.specs.Queues.{held, is_writing, standing_of, mode_of}
+use Rattle.lock_db.specs.Queues.{held}
 use Rattle.lock_db.specs.Resources.{is_writing_held}
-use Rattle.lock_db.specs.Tables.{resource_at, all_together}
-use Rattle.lock_db.proofs.Owners.{same_owner-same, same_owner-refl}
-use Rattle.lock_db.proofs.Names.{is_same-same, is_same-refl}
 use Rattle.lock_db.proofs.Steps.{IsSettled-at}
 use Rattle.dlm_core.specs.declared.messages.Letter.{Letter}
 use Rattle.dlm_core.specs.declared.messages.Letter.TheVariants.{Ask, Drop, Grant, Claim}
 use Rattle.dlm_core.specs.declared.messages.Message.{Message}
-use Rattle.dlm_core.specs.declared.holds.Hold.{Hold}
 use Rattle.dlm_core.specs.declared.blocks.Seen.{Seen}
 use Rattle.dlm_core.specs.declared.queue.Waiter.{Waiter}
-use Rattle.dlm_core.specs.Modes.{is_lowering, writes}
-use Rattle.dlm_core.specs.States.{State, home, home_at, master, recovery, table_at, told_at, is_at, hold_at, noted, is_between, past_first}
-use Rattle.dlm_core.specs.Steps.{is_call, stands_as, call_to, seen_after, called, is_served, grant_of, grants_of, served, granted}
+use Rattle.dlm_core.specs.States.{State, home, recovery, table_at, told_at, hold_at}
+use Rattle.dlm_core.specs.Steps.{stands_as, is_served, grant_of, grants_of, served}
 use Rattle.dlm_core.specs.Recoveries.{is_strong}
-use Rattle.dlm_core.specs.Lanes.{is_about, has_kind, is_kind, letters_of, IsLane, LaneOf, IsClaimed, IsGrantOf, MayWait, last_ask, lowered, standing_at, waiters_of, GoTogether, IsSound}
+use Rattle.dlm_core.specs.Lanes.{has_kind, is_kind, letters_of, IsLane, LaneOf, IsGrantOf, MayWait, last_ask, standing_at, waiters_of, IsSound}
 use Rattle.dlm_core.specs.Lanes.IsLane.{Sends, Stands, Comes}
-use Rattle.dlm_core.specs.Values.{bytes_if}
-use Rattle.dlm_core.proofs.Ahead.{marked, OK, wrote_then, lock_behind, letters, ahead, ahead-quiet, behind-writes, ahead-append, behind-lowered, behind-asked, IsFree, Val, IsAlone, writing-strong, weak-quiet, quiet-or}
-use Rattle.dlm_core.proofs.Mails.{letters-append, letters-one, mails-first, mails-past}
-use Rattle.dlm_core.proofs.Beliefs.{at-owner, at-name, noted-here, noted-other}
+use Rattle.dlm_core.proofs.Ahead.{marked, OK, lock_behind, letters, ahead, behind-lowered, behind-asked, IsFree, Val, IsAlone, writing-strong, weak-quiet}
+use Rattle.dlm_core.proofs.Mails.{letters-append, letters-one}
 use Rattle.dlm_core.proofs.Safety.{sound-safe, held-stands, granted-together}
 use Rattle.dlm_core.proofs.Serving.{filter-calls}
 use Rattle.dlm_core.proofs.Passing.{kind-itself}
-use Rattle.dlm_core.proofs.Sending.{calling, not-about}
-use Rattle.dlm_core.proofs.Tracing.{Each, each-append, each-weaker, each-split, each-both, each-contained, Says, says-weaker}
-use Rattle.dlm_core.proofs.Truth.{each-past, each-find}
+use Rattle.dlm_core.proofs.Tracing.{Each, each-append, each-weaker, each-split, Says, says-weaker}
 
 true-false : true ≡ false → ⊥
 true-false e = cc

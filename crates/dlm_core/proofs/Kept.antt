@@ -1,5 +1,5 @@
 -- What ends of recoveries leave as it is: the rule, and names that are not being recovered.
-use Rattle.std.proofs.Common.{◌≡◌, ◌≢◌, ◌==◌, ◌&&◌, ◌++◌, ◌≤◌, ℕ, ◌-◌, Bool, true, false, List, [], ◌∷◌, Option, Some, None, is_some, map, find, length, set, get_or, refl, ap, sym, subst, ◌∙◌, if◌then◌else◌}
+use Rattle.std.proofs.Common.{◌≡◌, ◌≢◌, ◌++◌, ◌≤◌, ℕ, ◌-◌, true, false, List, [], ◌∷◌, Option, Some, None, is_some, find, length, refl, ap, sym, ◌∙◌, if◌then◌else◌}
 use Rattle.std.specs.List.{range_with_len}
 use Rattle.std.proofs.lemmas.List.{length-set}
 use Rattle.plain_cat.specs.declared.mode.Mode.{Mode}
@@ -16,13 +16,13 @@ use Rattle.dlm_core.specs.declared.events.Event.{Event}
 use Rattle.dlm_core.specs.declared.events.Event.TheVariants as event
 use Rattle.dlm_core.specs.declared.rules.BlockRule.TheVariants.{OfHolders}
 use Rattle.dlm_core.specs.Modes.{crosses}
-use Rattle.dlm_core.specs.States.{State, home, recovery, table_at, told_at, hold_at, asked_hold, own_home, is_between, past_first, start}
+use Rattle.dlm_core.specs.States.{State, home, recovery, table_at, told_at, hold_at, asked_hold, is_between, past_first, start}
 use Rattle.dlm_core.specs.Steps.{called, ask_after, drop_after, served, taken}
 use Rattle.dlm_core.specs.Recoveries.{is_open, closed, ended, ended_if, all_ended}
 use Rattle.dlm_core.specs.Deaths.{bereft, bereft_tables, killed}
-use Rattle.dlm_core.specs.Events.{arrived, claimed, received, pass_after, names_living, played, after}
+use Rattle.dlm_core.specs.Events.{arrived, received, pass_after, names_living, played, after}
 use Rattle.dlm_core.specs.Lanes.{IsSound}
-use Rattle.dlm_core.specs.Runs.{MakesCall, IsDue, IsClaimOf, claimed_block, IsStep, AreSteps, Leads}
+use Rattle.dlm_core.specs.Runs.{MakesCall, IsDue, claimed_block, IsStep, AreSteps}
 use Rattle.dlm_core.specs.Runs.MakesCall.{Requests, Converts, Releases}
 use Rattle.dlm_core.specs.Runs.IsStep.{Restores, Keeps}
 use Rattle.dlm_core.proofs.Shapes.{length-bereft}

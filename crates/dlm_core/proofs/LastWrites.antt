@@ -1,5 +1,5 @@
 -- Holders have the last write, over every list of events and deaths.
-use Rattle.std.proofs.Common.{◌≡◌, ◌≢◌, ◌==◌, ◌&&◌, ◌||◌, ◌++◌, ◌⊎◌, ◌≤◌, inl, inr, ℕ, ◌-◌, Bool, true, false, not, List, [], ◌∷◌, Option, Some, None, is_some, map, filter, find, refl, arith, ap, sym, subst, ◌∙◌, if◌then◌else◌, option_and_then, replicate, Contains}
+use Rattle.std.proofs.Common.{◌≡◌, ◌&&◌, ◌||◌, ◌++◌, ◌⊎◌, ◌≤◌, inl, inr, ℕ, ◌-◌, Bool, true, false, not, List, [], ◌∷◌, Option, Some, None, is_some, filter, find, refl, arith, ap, sym, subst, ◌∙◌, if◌then◌else◌, option_and_then, Contains}
 use Rattle.std.proofs.lemmas.List.Elements.{Contains-append_right}
 use Rattle.plain_cat.specs.declared.mode.Mode.{Mode}
 use Rattle.lock_db.specs.declared.name.LockName.{LockName}
@@ -23,24 +23,24 @@ use Rattle.dlm_core.specs.declared.events.Told.TheVariants as told
 use Rattle.dlm_core.specs.declared.rules.BlockRule.TheVariants.{OfHolders}
 use Rattle.dlm_core.specs.Modes.{lowers, crosses, writes}
 use Rattle.dlm_core.specs.States.{State, lives, home, recovery, table_at, told_at, hold_at, asked_hold, is_between, past_first, start}
-use Rattle.dlm_core.specs.Steps.{is_call, called, ask_after, drop_after, served, taken, granted}
-use Rattle.dlm_core.specs.Recoveries.{is_strong, all_ended}
+use Rattle.dlm_core.specs.Steps.{is_call, called, ask_after, drop_after, served, taken}
+use Rattle.dlm_core.specs.Recoveries.{is_strong}
 use Rattle.dlm_core.specs.Restored.{has_lock}
-use Rattle.dlm_core.specs.Deaths.{was_master, bereft, with_claims, with_ended, killed}
+use Rattle.dlm_core.specs.Deaths.{was_master, bereft, with_ended, killed}
 use Rattle.dlm_core.specs.Events.{arrived, is_claimed, claimed, received, received_told, pass_told, pass_after, names_living, answer_of, played, after, told_of}
-use Rattle.dlm_core.specs.Lanes.{is_kind, IsSound}
+use Rattle.dlm_core.specs.Lanes.{IsSound}
 use Rattle.dlm_core.specs.Runs.{after_all}
-use Rattle.dlm_core.specs.Values.{loses_master, call_writes, bytes_if, write_of, is_gone, may_be_gone, read_after, readable, readable_of, HoldersHaveTheLastWrite}
-use Rattle.dlm_core.proofs.Ahead.{marked, OK, wrote, Val, gone-val, lower-weak}
+use Rattle.dlm_core.specs.Values.{call_writes, bytes_if, write_of, is_gone, may_be_gone, read_after, readable, readable_of, HoldersHaveTheLastWrite}
+use Rattle.dlm_core.proofs.Ahead.{marked, OK, wrote, gone-val, lower-weak}
 use Rattle.dlm_core.proofs.Beliefs.{hold-owner, hold-name}
-use Rattle.dlm_core.proofs.Sending.{start-sound, start-empty, own-recovers}
+use Rattle.dlm_core.proofs.Sending.{start-sound, start-empty}
 use Rattle.dlm_core.proofs.Takes.{served-sound}
 use Rattle.dlm_core.proofs.Dying.{bereft-pre, recovery-stays}
 use Rattle.dlm_core.proofs.Passing.{claim-sound}
 use Rattle.dlm_core.proofs.Sound.{after-sound, awaited-sound}
 use Rattle.dlm_core.proofs.Tracing.{Each, each-both, Says}
 use Rattle.dlm_core.proofs.Truth.{each-find, ask-no_grant, drop-no_grant}
-use Rattle.dlm_core.proofs.Holding.{calls_of, lock_in, calls_in, block_in, seen_block, ValOf, val-more, more-ok, GrantOK, Values, values-more, served-values, Coming, Comes1, each-coming}
+use Rattle.dlm_core.proofs.Holding.{lock_in, calls_in, block_in, seen_block, ValOf, val-more, more-ok, GrantOK, Values, values-more, served-values, Coming, Comes1, each-coming}
 use Rattle.dlm_core.proofs.Turns.{rewrote, called-values}
 use Rattle.dlm_core.proofs.Arrivals.{zeros, unused, granted-values, claim-values, keep-values, taken-values}
 use Rattle.dlm_core.proofs.Losses.{bereft-values, claims-values}

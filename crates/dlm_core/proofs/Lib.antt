@@ -16,6 +16,7 @@ pub mod LastWrites
 pub mod Losses
 pub mod Mails
 pub mod Modes
+pub mod Noticing
 pub mod Ordered
 pub mod Others
 pub mod Passing

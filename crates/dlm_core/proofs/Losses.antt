@@ -1,35 +1,31 @@
 -- What may be read once a node is dead.
-use Rattle.std.proofs.Common.{◌≡◌, ◌≢◌, ◌==◌, ◌&&◌, ◌||◌, ◌++◌, ◌⊎◌, inl, inr, ℕ, Bool, true, false, not, List, [], ◌∷◌, Option, Some, None, is_some, map, filter, find, refl, arith, ap, sym, subst, ◌∙◌, cond, if◌then◌else◌, option_and_then, option_map, Contains}
-use Rattle.std.specs.List.{list_all, list_any}
+use Rattle.std.proofs.Common.{◌≡◌, ◌≢◌, ◌==◌, ◌&&◌, ◌||◌, ◌++◌, ◌⊎◌, inl, inr, ℕ, Bool, true, false, not, List, [], ◌∷◌, Option, Some, None, is_some, map, find, refl, ap, sym, subst, ◌∙◌, cond, if◌then◌else◌, option_and_then, option_map, Contains}
+use Rattle.std.specs.List.{list_any}
 use Rattle.std.proofs.lemmas.List.{append-nil}
 use Rattle.std.proofs.lemmas.List.Elements.{filter-append}
-use Rattle.plain_cat.specs.declared.mode.Mode.{Mode}
 use Rattle.lock_db.specs.declared.name.LockName.{LockName}
 use Rattle.lock_db.specs.declared.name.Owner.{Owner}
-use Rattle.lock_db.specs.declared.askers.Standing.{Standing}
 use Rattle.lock_db.specs.declared.askers.Asker.{Asker}
 use Rattle.lock_db.specs.declared.resource.Resource.{Resource}
-use Rattle.lock_db.specs.Names.{is_same, same_owner}
+use Rattle.lock_db.specs.Names.{same_owner}
 use Rattle.lock_db.specs.Queues.{held, standing_of}
 use Rattle.lock_db.specs.Resources.{fresh, is_used, is_writing_held, is_writer_of, dropped_of}
 use Rattle.lock_db.specs.Tables.{resource_at, IsTable, dropped, stand_together, all_together}
 use Rattle.lock_db.proofs.Lists.{and-left, and-right, not-true, or-false_left, or-false_right, list_all-find, find-passes}
 use Rattle.lock_db.proofs.Owners.{same_owner-same, same_owner-refl, owned}
 use Rattle.lock_db.proofs.Together.{all_together-head, all_together-tail}
-use Rattle.lock_db.proofs.Order.{vacated}
 use Rattle.lock_db.proofs.Steps.{IsSettled-at}
 use Rattle.lock_db.proofs.Blocks.{dropped-at}
-use Rattle.dlm_core.specs.declared.messages.Letter.{Letter}
 use Rattle.dlm_core.specs.declared.messages.Message.{Message}
 use Rattle.dlm_core.specs.declared.holds.Hold.{Hold}
 use Rattle.dlm_core.specs.States.{State, home, master, recovery, table_at, told_at, hold_at}
 use Rattle.dlm_core.specs.Recoveries.{is_strong}
-use Rattle.dlm_core.specs.Lanes.{is_kind, letters_of, LaneOf, MayWait, standing_at, waiters_of, is_addressed, IsSound}
-use Rattle.dlm_core.specs.Deaths.{lowest, was_master, is_lost, left_holds, claim_from, with_claims, bereft}
+use Rattle.dlm_core.specs.Lanes.{is_kind, letters_of, LaneOf, MayWait, standing_at, waiters_of, IsSound}
+use Rattle.dlm_core.specs.Deaths.{lowest, was_master, is_lost, claim_from, with_claims, bereft}
 use Rattle.dlm_core.proofs.Ahead.{marked, OK, ahead, Val, Stays, death-val, gone-val}
 use Rattle.dlm_core.proofs.Takes.{eq-of, ne-of}
 use Rattle.dlm_core.proofs.Restoring.{nothing_of}
-use Rattle.dlm_core.proofs.Dying.{mails-stay, mails-go, kept-addressed, dropped-serves, hold-live, hold-dead, claims-lost, claims-live, claims-dead, older, newer, left_mail, may-at, recovery-lost, recovery-stays, table-stays}
+use Rattle.dlm_core.proofs.Dying.{mails-stay, mails-go, kept-addressed, dropped-serves, hold-live, hold-dead, claims-lost, claims-live, claims-dead, may-at, recovery-lost, recovery-stays, table-stays}
 use Rattle.dlm_core.proofs.Tracing.{Each, each-append, each-filter}
 use Rattle.dlm_core.proofs.Holding.{calls_of, lock_in, calls_in, block_in, seen_block, ValOf, GrantOK, Values, val-same, lone, alone}
 use Rattle.dlm_core.proofs.Arrivals.{zeros, block_at1, lock_at1, serves, nobody-stands}

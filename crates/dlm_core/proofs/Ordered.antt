@@ -1,30 +1,30 @@
 -- The claims of a name stand in order.
-use Rattle.std.proofs.Common.{◌≡◌, ◌≢◌, ◌==◌, ◌&&◌, ◌||◌, ◌++◌, ◌≤◌, ℕ, nat_lt, Bool, true, false, not, List, [], ◌∷◌, Option, Some, None, is_some, filter, find, refl, arith, ap, sym, subst, ◌∙◌, cond, if◌then◌else◌}
+use Rattle.std.proofs.Common.{◌≡◌, ◌==◌, ◌&&◌, ◌||◌, ◌++◌, ℕ, Bool, true, false, not, List, [], ◌∷◌, Option, Some, None, is_some, filter, find, refl, arith, ap, sym, subst, ◌∙◌, cond, if◌then◌else◌}
 use Rattle.std.specs.List.{list_all}
 use Rattle.std.proofs.lemmas.Bool.Decides.{nat_tests}
 use Rattle.plain_cat.specs.declared.mode.Mode.{Mode}
 use Rattle.lock_db.specs.declared.name.LockName.{LockName}
 use Rattle.lock_db.specs.declared.name.Owner.{Owner}
-use Rattle.lock_db.specs.Names.{is_same, is_before, same_owner, kind_of, number_of}
+use Rattle.lock_db.specs.Names.{is_same, is_before, same_owner}
 use Rattle.lock_db.proofs.Lists.{and-left, and-right, and-both, not-true, list_all-head, list_all-tail, list_all-weaker, list_all-filter, list_all-joined, list_all-passing}
-use Rattle.lock_db.proofs.Names.{is_same-same, is_same-refl}
+use Rattle.lock_db.proofs.Names.{is_same-same}
 use Rattle.dlm_core.specs.declared.messages.Letter.{Letter}
 use Rattle.dlm_core.specs.declared.messages.Letter.TheVariants.{Ask, Drop, Grant, Claim}
 use Rattle.dlm_core.specs.declared.messages.Message.{Message}
 use Rattle.dlm_core.specs.declared.holds.Hold.{Hold}
 use Rattle.dlm_core.specs.declared.blocks.Seen.{Seen}
+use Rattle.lock_db.specs.declared.resource.Resource.{Resource}
+use Rattle.dlm_core.specs.declared.queue.Waiter.{Waiter}
 use Rattle.dlm_core.specs.declared.events.Event.{Event}
 use Rattle.dlm_core.specs.declared.events.Event.TheVariants as event
-use Rattle.dlm_core.specs.declared.rules.BlockRule.{BlockRule}
-use Rattle.dlm_core.specs.Modes.{crosses}
+use Rattle.dlm_core.specs.Modes.{crosses, lowers}
 use Rattle.dlm_core.specs.States.{State, recovery, hold_at, asked_hold, is_at, is_lower, is_earlier_on, is_earlier, noted, put_before, is_between, past_first, start}
-use Rattle.dlm_core.specs.Steps.{called, ask_after, drop_after, served, taken, granted}
-use Rattle.dlm_core.specs.Recoveries.{is_with, is_name_of, is_open, closed, ended, ended_if, all_ended}
+use Rattle.dlm_core.specs.Steps.{called, ask_after, drop_after, served, taken, goes_before, put_last, taken_from, taken_all, is_served}
+use Rattle.dlm_core.specs.Recoveries.{is_with, is_open, block_for, closed, recovered_with, ended, ended_if, all_ended, again, reclaimed_lock, reclaimed, asked_again, all_asked_again}
 use Rattle.dlm_core.specs.Deaths.{was_master, left_holds, bereft, killed}
-use Rattle.dlm_core.specs.Events.{arrived, claimed, received, pass_after, names_living, played, after}
+use Rattle.dlm_core.specs.Events.{arrived, received, pass_after, names_living, played, after}
 use Rattle.dlm_core.specs.Runs.{after_all}
-use Rattle.dlm_core.specs.Restored.{own_claims}
-use Rattle.dlm_core.specs.Order.{comes_first, is_taken_first, goes_in_front, in_order, AsksAreTakenInOrder}
+use Rattle.dlm_core.specs.Order.{is_taken_first, goes_in_front, in_order, AsksAreTakenInOrder, may_stand_first, queue_in_order, QueueIsInOrder}
 use Rattle.dlm_core.proofs.Trails.{taken-stays, ended-stays}
 use Rattle.dlm_core.proofs.Endings.{taken-holds, all-ended-holds}
 
@@ -291,3 +291,190 @@ asks-in_order rule nodes es dead l =
     let s : State = after_all (start rule nodes) es in
     let o = all-ordered es (start rule nodes) (record { holds = refl; claims = refl }) in
     order-filter (λ (h : Hold). is_with true dead s h.name) s.claims o.claims
+
+-- ---- the asks that wait stand in order
+
+module _ {X : Type 0} where
+  all-placed : (q p : X → Bool) (h : X) (hs : List X) → q h ≡ true → list_all q hs ≡ true → list_all q (put_before p h hs) ≡ true
+  all-placed q p h [] e a = and-both (q h) true e refl
+  all-placed q p h (k ∷ ks) e a =
+      (elim (p k) as (λ b. list_all q (if b then h ∷ (k ∷ ks) else k ∷ put_before p h ks) ≡ true) [
+        | true ↦ and-both (q h) (list_all q (k ∷ ks)) e a
+        | false ↦ and-both (q k) (list_all q (put_before p h ks)) (list_all-head q k ks a) (all-placed q p h ks e (list_all-tail q k ks a))
+      ])
+
+data Fore (a b : Waiter) : Type 0 where
+  ByName : is_before a.name b.name ≡ true → Fore a b
+  OnName : is_same a.name b.name ≡ true → (a.converts || not b.converts) ≡ true → Fore a b
+
+fore-of : (a b : Waiter) → may_stand_first a b ≡ true → Fore a b
+fore-of a b e =
+    (elim (is_before a.name b.name) as (λ c. is_before a.name b.name ≡ c → (c || (is_same a.name b.name && (a.converts || not b.converts))) ≡ true → Fore a b) [
+      | true ↦ λ f g. Fore.ByName f
+      | false ↦ λ f g. Fore.OnName (and-left (is_same a.name b.name) _ g) (and-right (is_same a.name b.name) _ g)
+    ]) refl e
+
+of-fore : (a b : Waiter) → Fore a b → may_stand_first a b ≡ true
+of-fore a b (Fore.ByName e) = rw e refl
+of-fore a b (Fore.OnName e f) = rw (e, f) (or-yes (is_before a.name b.name))
+  where
+    or-yes : (b : Bool) → (b || true) ≡ true
+    or-yes true = refl
+    or-yes false = refl
+
+converts-trans : (x y z : Bool) → (x || not y) ≡ true → (y || not z) ≡ true → (x || not z) ≡ true
+converts-trans true y z e f = refl
+converts-trans false true z e f = cc
+converts-trans false false z e f = f
+
+both-fore : (a b c : Waiter) → Fore a b → Fore b c → Fore a c
+both-fore a b c (Fore.ByName e) (Fore.ByName f) = Fore.ByName (before-trans a.name b.name c.name e f)
+both-fore a b c (Fore.ByName e) (Fore.OnName f g) = Fore.ByName (before-same a.name b.name c.name e f)
+both-fore a b c (Fore.OnName e g) (Fore.ByName f) = Fore.ByName (same-before a.name b.name c.name e f)
+both-fore a b c (Fore.OnName e g) (Fore.OnName f h) = Fore.OnName (same-trans a.name b.name c.name e f) (converts-trans a.converts b.converts c.converts g h)
+
+fore-trans : (a b c : Waiter) → may_stand_first a b ≡ true → may_stand_first b c ≡ true → may_stand_first a c ≡ true
+fore-trans a b c e f = of-fore a c (both-fore a b c (fore-of a b e) (fore-of b c f))
+
+-- what goes before stands first, and what it does not go before may stand in front of it
+goes-fore : (a b : Waiter) → goes_before a b ≡ true → may_stand_first a b ≡ true
+goes-fore a b e =
+    (elim (is_before a.name b.name) as (λ c. is_before a.name b.name ≡ c → (c || (is_same a.name b.name && (a.converts && not b.converts))) ≡ true → may_stand_first a b ≡ true) [
+      | true ↦ λ f g. of-fore a b (Fore.ByName f)
+      | false ↦ λ f g.
+          let on = and-right (is_same a.name b.name) (a.converts && not b.converts) g in
+          of-fore a b (Fore.OnName (and-left (is_same a.name b.name) _ g) (ap (λ (c : Bool). c || not b.converts) (and-left a.converts (not b.converts) on)))
+    ]) refl e
+
+stays-fore : (a b : Waiter) → goes_before a b ≡ false → may_stand_first b a ≡ true
+stays-fore a b e =
+    (elim (is_same a.name b.name) as (λ c. is_same a.name b.name ≡ c → may_stand_first b a ≡ true) [
+      | true ↦ λ f. of-fore b a (Fore.OnName (same-turned a.name b.name f) (turned a.converts b.converts (last (is_before a.name b.name) (is_same a.name b.name) (a.converts && not b.converts) e f)))
+      | false ↦ λ f. of-fore b a (Fore.ByName (before-or a.name b.name (first (is_before a.name b.name) _ e) f))
+    ]) refl
+  where
+    turned : (x y : Bool) → (x && not y) ≡ false → (y || not x) ≡ true
+    turned true true q = refl
+    turned true false q = cc
+    turned false true q = refl
+    turned false false q = refl
+
+    first : (x y : Bool) → (x || y) ≡ false → x ≡ false
+    first true y q = cc
+    first false y q = refl
+
+    last : (x y z : Bool) → (x || (y && z)) ≡ false → y ≡ true → z ≡ false
+    last true y z q r = cc
+    last false true z q r = q
+    last false false z q r = cc
+
+queue-put : (w : Waiter) (q : List Waiter) → queue_in_order q ≡ true → queue_in_order (put_before (goes_before w) w q) ≡ true
+queue-put w [] s = refl
+queue-put w (k ∷ ks) s =
+    let later : list_all (may_stand_first k) ks ≡ true = and-left (list_all (may_stand_first k) ks) (queue_in_order ks) s in
+    let rest : queue_in_order ks ≡ true = and-right (list_all (may_stand_first k) ks) (queue_in_order ks) s in
+    (elim (goes_before w k) as (λ b. goes_before w k ≡ b → queue_in_order (if b then w ∷ (k ∷ ks) else k ∷ put_before (goes_before w) w ks) ≡ true) [
+      | true ↦ λ e.
+          let f = goes-fore w k e in
+          and-both (list_all (may_stand_first w) (k ∷ ks)) (queue_in_order (k ∷ ks)) (and-both (may_stand_first w k) (list_all (may_stand_first w) ks) f (list_all-weaker (may_stand_first k) (may_stand_first w) ks (λ j q. fore-trans w k j f q) later)) s
+      | false ↦ λ e. and-both (list_all (may_stand_first k) (put_before (goes_before w) w ks)) (queue_in_order (put_before (goes_before w) w ks)) (all-placed (may_stand_first k) (goes_before w) w ks (stays-fore w k e) later) (queue-put w ks rest)
+    ]) refl
+
+queue-filter : (p : Waiter → Bool) (q : List Waiter) → queue_in_order q ≡ true → queue_in_order (filter p q) ≡ true
+queue-filter p [] s = refl
+queue-filter p (k ∷ ks) s =
+    let rest = queue-filter p ks (and-right (list_all (may_stand_first k) ks) (queue_in_order ks) s) in
+    (elim (p k) as (λ b. queue_in_order (cond b (k ∷ filter p ks) (filter p ks)) ≡ true)
+    [ true ↦ and-both (list_all (may_stand_first k) (filter p ks)) (queue_in_order (filter p ks)) (list_all-filter (may_stand_first k) p ks (and-left (list_all (may_stand_first k) ks) (queue_in_order ks) s)) rest | false ↦ rest ])
+
+abbrev Queued : State → Type 0
+Queued s = queue_in_order s.queue ≡ true
+
+put-queued : (m : Message) (old : Option Mode) (w : Mode) (q : List Waiter) → queue_in_order q ≡ true → queue_in_order (put_last m old w q) ≡ true
+put-queued m old w q s =
+    let one : Waiter = record { owner = m.owner; name = m.name; mode = w; converts = is_some old } in
+    (elim (lowers old w) as (λ b. queue_in_order (if b then q else put_before (goes_before one) one q) ≡ true) [ true ↦ s | false ↦ queue-put one q s ])
+
+taken-queued : (l : Letter) (m : Message) (old : Option Mode) (t : List Resource) (s : State) → Queued s → Queued (taken_from m l old t s)
+taken-queued (Ask w) m old t s o = queue-filter _ (put_last m old w s.queue) (put-queued m old w s.queue o)
+taken-queued Drop m old t s o = queue-filter _ s.queue o
+taken-queued (Grant w v) m old t s o = o
+taken-queued (Claim d) m old t s o = o
+
+taken_all-queued : (ms : List Message) (s : State) → Queued s → Queued (taken_all ms s)
+taken_all-queued [] s o = o
+taken_all-queued (m ∷ ms) s o = taken_all-queued ms (taken m s) (taken-queued m.letter m _ _ s o)
+
+reclaim-queued : (w : Option Mode) (h : Hold) (b : Seen) (s : State) → Queued s → Queued (reclaimed_lock h w b s)
+reclaim-queued None h b s o = o
+reclaim-queued (Some w) h b s o = o
+
+reclaimed-queued : (bs : LockName → Seen) (hs : List Hold) (s : State) → Queued s → Queued (reclaimed bs hs s)
+reclaimed-queued bs [] s o = o
+reclaimed-queued bs (h ∷ hs) s o = reclaimed-queued bs hs (reclaimed_lock h h.belief (bs h.name) s) (reclaim-queued h.belief h (bs h.name) s o)
+
+again-queued : (w : Option Mode) (h : Hold) (b : Seen) (s : State) → Queued s → Queued (asked_again h w b s)
+again-queued None h b s o = o
+again-queued (Some w) h b s o = queue-filter _ (put_last (again h w b s) _ w s.queue) (put-queued (again h w b s) _ w s.queue o)
+
+asked-queued : (bs : LockName → Seen) (hs : List Hold) (s : State) → Queued s → Queued (all_asked_again bs hs s)
+asked-queued bs [] s o = o
+asked-queued bs (h ∷ hs) s o = asked-queued bs hs (asked_again h h.wait (bs h.name) s) (again-queued h.wait h (bs h.name) s o)
+
+recovered-queued : (bs : LockName → Seen) (hs : List Hold) (ms : List Message) (s : State) → Queued s → Queued (recovered_with bs hs ms s)
+recovered-queued bs hs ms s o = taken_all-queued ms (all_asked_again bs hs (reclaimed bs hs s)) (asked-queued bs hs (reclaimed bs hs s) (reclaimed-queued bs hs s o))
+
+ended-queued : (d : ℕ) (s : State) → Queued s → Queued (ended_if d s)
+ended-queued d s o =
+    (elim (is_open d s.awaited) as (λ b. Queued (if b then s else ended d s)) [
+      | true ↦ o
+      | false ↦
+          let hs : List Hold = filter (λ h. is_with true d s h.name) s.claims in
+          let bs : LockName → Seen = block_for s.rule hs (filter (λ b. is_with true d s b.name) s.claimed_blocks) in
+          recovered-queued bs hs (filter (λ m. is_with true d s m.name) s.kept) (closed d s) o
+    ])
+
+all-ended-queued : (ds : List ℕ) (s : State) → Queued s → Queued (all_ended ds s)
+all-ended-queued [] s o = o
+all-ended-queued (d ∷ ds) s o = all-ended-queued ds (ended_if d s) (ended-queued d s o)
+
+ask-queued : (h : Hold) (mode : Mode) (fill : ℕ) (s : State) → Queued s → Queued (ask_after h mode fill s)
+ask-queued h mode fill s o =
+    (elim (is_some h.wait) as (λ b. Queued (if b then s else if crosses h.belief mode then s else called h.belief (asked_hold h mode) (Ask mode) fill s)) [
+      | true ↦ o
+      | false ↦ (elim (crosses h.belief mode) as (λ b. Queued (if b then s else called h.belief (asked_hold h mode) (Ask mode) fill s)) [ true ↦ o | false ↦ o ])
+    ])
+
+drop-queued : (h : Hold) (fill : ℕ) (s : State) → Queued s → Queued (drop_after h fill s)
+drop-queued h fill s o =
+    (elim (is_some h.wait) as (λ b. Queued (if b then s else if is_some h.belief then called h.belief (record h { belief = None }) Drop fill s else s)) [
+      | true ↦ o
+      | false ↦ (elim (is_some h.belief) as (λ b. Queued (if b then called h.belief (record h { belief = None }) Drop fill s else s)) [ true ↦ o | false ↦ o ])
+    ])
+
+arrived-queued : (m : Message) (s : State) → Queued s → Queued (arrived m s)
+arrived-queued m s o = (elim (is_some (recovery m.name s)) as (λ b. Queued (if b then record s { kept = s.kept ++ (m ∷ []) } else taken m s)) [ true ↦ o | false ↦ taken-queued m.letter m _ _ s o ])
+
+received-queued : (m : Message) (l : Letter) (s : State) → Queued s → Queued (received m l s)
+received-queued m (Ask w) s o = arrived-queued m s o
+received-queued m Drop s o = arrived-queued m s o
+received-queued m (Grant w v) s o = o
+received-queued m (Claim d) s o = all-ended-queued s.recoveries _ o
+
+pass-queued : (from to : ℕ) (f : Option Message) (s : State) → Queued s → Queued (pass_after from to f s)
+pass-queued from to None s o = o
+pass-queued from to (Some m) s o = received-queued m m.letter (record s { mail = past_first (is_between from to) s.mail }) o
+
+played-queued : (e : Event) (s : State) → Queued s → Queued (played e s)
+played-queued (event.Ask owner name mode fill) s o = ask-queued (hold_at owner name s.holds) mode fill s o
+played-queued (event.Drop owner name fill) s o = drop-queued (hold_at owner name s.holds) fill s o
+played-queued (event.Pass from to) s o = pass-queued from to (find (is_between from to) s.mail) s o
+played-queued (event.Kill d) s o = all-ended-queued (served (bereft d s)).recoveries (served (bereft d s))
+    (queue-filter (λ w. not (is_served (bereft d s) w)) (bereft d s).queue (queue-filter (λ w. not (w.owner.node == d) && not (was_master d s w.name)) s.queue o))
+
+all-queued : (es : List Event) (s : State) → Queued s → Queued (after_all s es)
+all-queued [] s o = o
+all-queued (e ∷ es) s o = all-queued es (after e s) ((elim (names_living e s) as (λ b. Queued (if b then played e s else s)) [ true ↦ played-queued e s o | false ↦ o ]))
+
+pub queue-ordered : QueueIsInOrder
+queue-ordered rule nodes es l = all-queued es (start rule nodes) refl

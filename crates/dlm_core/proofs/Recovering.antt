@@ -18,7 +18,6 @@ use Rattle.dlm_core.specs.declared.messages.Letter.TheVariants.{Ask, Drop, Grant
 use Rattle.dlm_core.specs.declared.messages.Message.{Message}
 use Rattle.dlm_core.specs.declared.holds.Hold.{Hold}
 use Rattle.dlm_core.specs.declared.homes.Home.{Home}
-use Rattle.dlm_core.specs.declared.blocks.Block.{Block}
 use Rattle.dlm_core.specs.declared.blocks.Seen.{Seen}
 use Rattle.dlm_core.specs.declared.blocks.Version.{Version}
 use Rattle.dlm_core.specs.declared.queue.Waiter.{Waiter}
@@ -328,7 +327,7 @@ pub record IsClaimable (r : State) (bs : LockName → Seen) (h : Hold) : Type 0 
   pub block : bs h.name ≡ claimed_block r h.name
 
 -- the version of a name
-version-here : (x : LockName) (v : ℕ) (vs : List Version) → version_at x (noted_version x v vs) ≡ v
+pub version-here : (x : LockName) (v : ℕ) (vs : List Version) → version_at x (noted_version x v vs) ≡ v
 version-here x v vs =
     let p : Version → Bool = λ k. is_same k.name x in
     let one : Version = record { name = x; version = v } in

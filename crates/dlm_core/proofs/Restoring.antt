@@ -51,7 +51,7 @@ find-own (b ∷ before) rest a t =
     let apart : same_owner b.owner a.owner ≡ false = not-true (same_owner b.owner a.owner) (and-left (not (same_owner b.owner a.owner)) _ one) in
     rw apart (find-own before rest a (all_together-tail b (before ++ (a ∷ rest)) t))
 
-standing-own : (xs before rest : List Asker) (a : Asker) → all_together xs ≡ true → xs ≡ before ++ (a ∷ rest) → standing_of a.owner xs ≡ Some a.standing
+pub standing-own : (xs before rest : List Asker) (a : Asker) → all_together xs ≡ true → xs ≡ before ++ (a ∷ rest) → standing_of a.owner xs ≡ Some a.standing
 standing-own xs before rest a t e = ap (option_map (λ (z : Asker). z.standing)) (ap (find (owned a.owner)) e ∙ find-own before rest a (subst (λ (ys : List Asker). all_together ys ≡ true) e t))
 
 -- none stands before

@@ -209,6 +209,7 @@ new-wider n r a b c d m l t g =
       on_name = k.on_name;
       asks = k.asks;
       gave = k.gave;
+      version = k.version;
     }) g
 
 -- from one state to another the tables go by steps of recoveries, and the messages that are sent are given

@@ -27,12 +27,12 @@ use Rattle.dlm_core.specs.declared.rules.BlockRule.TheVariants.{OfHolders, OfAll
 use Rattle.dlm_core.specs.declared.blocks.Block.{Block}
 use Rattle.dlm_core.specs.declared.blocks.Seen.{Seen}
 use Rattle.dlm_core.specs.declared.queue.Waiter.{Waiter}
-use Rattle.dlm_core.specs.States.{State, home, home_at, master, recovery, table_at, told_at, in_turn}
+use Rattle.dlm_core.specs.States.{State, home, home_at, master, recovery, table_at, told_at, version_at, in_turn}
 use Rattle.dlm_core.specs.Steps.{is_grant, is_call, ask_made, drop_made, put_last, with_table, versions_after, is_served, grant_of, grants_of, served, taken_from, taken, taken_all}
 use Rattle.dlm_core.specs.Recoveries.{is_of_recovery, is_with, is_name_of, better, not_valid, is_strong, block_for, again, made_again, reclaimed_lock, reclaimed, asked_again, all_asked_again, closed, ended, is_open, ended_if, all_ended}
 use Rattle.dlm_core.specs.Deaths.{lowest, bereft, bereft_tables, is_lost, was_master, claim_from, with_ended, killed}
 use Rattle.dlm_core.specs.Lanes.{IsSound}
-use Rattle.dlm_core.specs.Runs.{claimed_block, IsDue, IsClaimOf, IsStep, Leads, MakesCall, Gave, GivesByDeath}
+use Rattle.dlm_core.specs.Runs.{claimed_block, IsDue, IsClaimOf, IsStep, BringsClaimed, Leads, MakesCall, Gave, GivesByDeath}
 use Rattle.dlm_core.specs.Runs.IsStep.{Restores, Keeps}
 use Rattle.dlm_core.proofs.Others.{can-mode}
 use Rattle.dlm_core.proofs.Passing.{First, call-first, ask-call, drop-call, head-ask, head-drop, can-drop, CanAsk, CanDrop}
@@ -40,7 +40,7 @@ use Rattle.dlm_core.proofs.Takes.{eq-of, served-sound}
 use Rattle.dlm_core.proofs.Dying.{table-stays, bereft-pre}
 use Rattle.dlm_core.proofs.Tracing.{Each, each-both, each-contained, each-filter, each-stood, queue-waits, queue-open, WaitsIn, Says, Stood, IsNew, Goes, goes-none, goes-join, leads-here, leads-one, ask-makes, drop-makes}
 use Rattle.dlm_core.proofs.ByCalls.{Passes, passes-old, passes-put, each-passing, true-false}
-use Rattle.dlm_core.proofs.Recovering.{IsClaimable, front, find-front, none-some, is_open_call, asks_one, asks_of, with_tables, asked-next, one-taken, reclaim-all, restore-start, restored-sound, open-claims, open-kept, open-closed, still-closed, recovery-asked, ended-sound, all-asked, asked-nodes, all-asked-nodes}
+use Rattle.dlm_core.proofs.Recovering.{IsClaimable, front, find-front, none-some, is_open_call, asks_one, asks_of, with_tables, asked-next, one-taken, reclaim-all, restore-start, restored-sound, open-claims, open-kept, open-closed, still-closed, recovery-asked, ended-sound, all-asked, asked-nodes, all-asked-nodes, version-here}
 
 -- ---- calls, one after the other
 
@@ -52,10 +52,10 @@ first-at m ms z n i =
 
 -- ---- the grants that are sent once the tables have changed by a step
 
-grants-new : (z r s : State) (m : Message) (ws : List Waiter) → z.nodes ≡ s.nodes → IsStep s.nodes r m s.tables z.tables → Each (Passes s m z) ws → Each (λ (w : Waiter). is_served z w ≡ true) ws
+grants-new : (z r s : State) (m : Message) (ws : List Waiter) → z.nodes ≡ s.nodes → (st : IsStep s.nodes r m s.tables z.tables) → ((u : Waiter) → u.name ≡ m.name → BringsClaimed s.nodes r m s.tables z.tables st (grant_of z u)) → Each (Passes s m z) ws → Each (λ (w : Waiter). is_served z w ≡ true) ws
     → Each (Stood z) (map (grant_of z) ws) → Each (IsNew s.nodes r s.tables z.tables) (map (grant_of z) ws)
-grants-new z r s m [] e st a b c = tt
-grants-new z r s m (w ∷ ws) e st a b c =
+grants-new z r s m [] e st v a b c = tt
+grants-new z r s m (w ∷ ws) e st v a b c =
     let now : Gave z.nodes z.tables w.owner w.name w.mode (told_at w.name z).value (told_at w.name z).valid = record { granted = c.0; block = refl; mark = refl } in
     let there : Gave s.nodes z.tables w.owner w.name w.mode (told_at w.name z).value (told_at w.name z).valid =
     subst (λ (n : ℕ). Gave n z.tables w.owner w.name w.mode (told_at w.name z).value (told_at w.name z).valid) e now in (
@@ -69,16 +69,17 @@ grants-new z r s m (w ∷ ws) e st a b c =
         on_name = sym (a.0.1 b.0);
         asks = a.0.0;
         gave = there;
+        version = v w (a.0.1 b.0);
       },
-      grants-new z r s m ws e st a.1 b.1 c.1,
+      grants-new z r s m ws e st v a.1 b.1 c.1,
     )
 
-serve-goes : (r s z : State) (m : Message) → z.nodes ≡ s.nodes → IsStep s.nodes r m s.tables z.tables → z.mail ≡ s.mail → Each (Passes s m z) z.queue → Each (Stood z) (grants_of z z.queue) → Goes s.nodes r s (served z)
-serve-goes r s z m e st f a b = record {
+serve-goes : (r s z : State) (m : Message) → z.nodes ≡ s.nodes → (st : IsStep s.nodes r m s.tables z.tables) → ((u : Waiter) → u.name ≡ m.name → BringsClaimed s.nodes r m s.tables z.tables st (grant_of z u)) → z.mail ≡ s.mail → Each (Passes s m z) z.queue → Each (Stood z) (grants_of z z.queue) → Goes s.nodes r s (served z)
+serve-goes r s z m e st v f a b = record {
   chain = leads-one s.nodes r m s.tables z.tables st;
   sent = grants_of z z.queue;
   sends = ap (λ (ms : List Message). ms ++ grants_of z z.queue) f;
-  given = grants-new z r s m (filter (is_served z) z.queue) e st (each-filter (Passes s m z) (is_served z) z.queue a) (each-passing (is_served z) z.queue) b;
+  given = grants-new z r s m (filter (is_served z) z.queue) e st v (each-filter (Passes s m z) (is_served z) z.queue a) (each-passing (is_served z) z.queue) b;
 }
 
 -- a message was kept back for a name whose recovery ends
@@ -101,7 +102,7 @@ take-goes (Ask w) r m ms s l k i a j =
     let makes : MakesCall m t t2 = ask-makes m w t c old l (can-mode c.lock (standing_of m.owner (resource_at m.name t).askers) c.stands) in
     let call = ask-call y m.from m.to m w i a l in
     let all : Each (Passes s m pre) s.queue = passes-old s m t2 pre s.queue i.some_node i.each_has_one call.others refl refl (queue-waits y i) in
-    serve-goes r s pre m refl (Keeps t2 k.due k.kept makes refl) refl (passes-put s m pre old w s.queue l all)
+    serve-goes r s pre m refl (Keeps t2 k.due k.kept makes refl) (λ u n. tt) refl (passes-put s m pre old w s.queue l all)
     (each-stood (front ms (served pre)) (ms ++ s.mail) (grants_of pre q) j (sym (append_assoc ms s.mail (grants_of pre q))))
 take-goes Drop r m ms s l k i a j =
     let y : State = front (m ∷ ms) s in
@@ -114,7 +115,7 @@ take-goes Drop r m ms s l k i a j =
     let at : pre.tables ≡ set s.tables (home s.nodes m.name - 1) t2 = ap (λ (u : List Resource). set s.tables (home s.nodes m.name - 1) u) is in
     let call = drop-call y m.from m.to m i a l in
     let all : Each (Passes s m pre) s.queue = passes-old s m t2 pre s.queue i.some_node i.each_has_one call.others refl at (queue-waits y i) in
-    serve-goes r s pre m refl (Keeps t2 k.due k.kept (drop-makes m t c l) at) refl all
+    serve-goes r s pre m refl (Keeps t2 k.due k.kept (drop-makes m t c l) at) (λ u n. tt) refl all
     (each-stood (front ms (served pre)) (ms ++ s.mail) (grants_of pre s.queue) j (sym (append_assoc ms s.mail (grants_of pre s.queue))))
 take-goes (Grant w v) r m ms s l k i a j = goes-none s.nodes r s s refl refl
 take-goes (Claim d) r m ms s l k i a j = goes-none s.nodes r s s refl refl
@@ -194,7 +195,9 @@ ask-goes (Some w) r h hs bs ms z u k n i f =
     let call = ask-call y m.from m.to m w i a refl in
     let leaves : LeavesOthers m.name t t2 = λ x d. recovered-leaves m.name m.value b.valid (ask_made m old w t) x d ∙ call.others x d in
     let all : Each (Passes z m pre) z.queue = passes-old z m t2 pre z.queue i.some_node i.each_has_one leaves refl refl (queue-waits y i) in
-    serve-goes r z pre m refl (Restores (ask_made m old w t) k.due claim makes (ap (λ (v : Seen). set z.tables (home z.nodes m.name - 1) (recovered m.name m.value v.valid (ask_made m old w t))) k.block)) refl (passes-put z m pre old w z.queue refl all)
+    let brings : (u2 : Waiter) → u2.name ≡ h.name → version_at u2.name pre.versions ≡ (claimed_block r u2.name).version =
+    λ u2 d. ap (λ (x : LockName). version_at x pre.versions) d ∙ version-here h.name b.version z.versions ∙ ap (λ (v : Seen). v.version) k.block ∙ ap (λ (x : LockName). (claimed_block r x).version) (sym d) in
+    serve-goes r z pre m refl (Restores (ask_made m old w t) k.due claim makes (ap (λ (v : Seen). set z.tables (home z.nodes m.name - 1) (recovered m.name m.value v.valid (ask_made m old w t))) k.block)) brings refl (passes-put z m pre old w z.queue refl all)
     (each-stood (front rest (served pre)) (rest ++ z.mail) (grants_of pre q) f.sound (sym (append_assoc rest z.mail (grants_of pre q))))
 
 all-asked-goes : (n : ℕ) (r : State) (hs : List Hold) (bs : LockName → Seen) (ms : List Message) (z : State) → z.nodes ≡ n → Each (IsClaimable r bs) hs → list_all (λ k. not (is_some (recovery k.name z))) hs ≡ true
@@ -489,6 +492,7 @@ grants-by_death d s (w ∷ ws) i a b =
         waited = a.0.0;
         gave = now;
         cleared = λ q. ap (λ (u : List Resource). (resource_at x u).valid) at ∙ mark-dropped x d w.owner t (Granted w.mode) (i.tables_are (home s.nodes x)) st q;
+        version = refl;
       },
       grants-by_death d s ws i a.1 b.1,
     )

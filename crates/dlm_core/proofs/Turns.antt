@@ -1,5 +1,5 @@
 -- What may be read once an owner has called, and once it has got a grant.
-use Rattle.std.proofs.Common.{◌≡◌, ◌≢◌, ◌==◌, ◌&&◌, ◌||◌, ◌++◌, ℕ, Bool, true, false, not, List, [], ◌∷◌, Option, Some, None, is_some, map, filter, find, refl, arith, ap, sym, subst, ◌∙◌, if◌then◌else◌, replicate, append_assoc, Contains}
+use Rattle.std.proofs.Common.{◌≡◌, ◌≢◌, ◌&&◌, ◌++◌, ℕ, Bool, true, false, List, [], ◌∷◌, Option, Some, None, refl, arith, ap, sym, subst, ◌∙◌, if◌then◌else◌, replicate, append_assoc}
 use Rattle.std.proofs.lemmas.List.{append-nil}
 use Rattle.std.proofs.lemmas.List.Elements.{filter-append}
 use Rattle.plain_cat.specs.declared.mode.Mode.{Mode}
@@ -15,18 +15,15 @@ use Rattle.dlm_core.specs.declared.messages.Message.{Message}
 use Rattle.dlm_core.specs.declared.holds.Hold.{Hold}
 use Rattle.dlm_core.specs.declared.blocks.Seen.{Seen}
 use Rattle.dlm_core.specs.Modes.{writes}
-use Rattle.dlm_core.specs.States.{State, recovery, is_at, hold_at, noted, is_between, past_first}
-use Rattle.dlm_core.specs.Steps.{is_call, call_to, seen_after, called, granted}
+use Rattle.dlm_core.specs.States.{State, recovery, is_at, hold_at}
+use Rattle.dlm_core.specs.Steps.{is_call, call_to, seen_after, called}
 use Rattle.dlm_core.specs.Recoveries.{is_strong}
-use Rattle.dlm_core.specs.Lanes.{is_about, has_kind, is_kind, LaneOf, IsSound}
+use Rattle.dlm_core.specs.Lanes.{is_about, has_kind, is_kind, IsSound}
 use Rattle.dlm_core.specs.Values.{bytes_if}
-use Rattle.dlm_core.proofs.Ahead.{marked, OK, wrote, wrote_then, lock_behind, letters, behind-writes, Val, push-val, writes-held}
-use Rattle.dlm_core.proofs.Mails.{mails-past}
+use Rattle.dlm_core.proofs.Ahead.{marked, OK, wrote, lock_behind, letters, behind-writes, push-val, writes-held}
 use Rattle.dlm_core.proofs.Beliefs.{at-owner, at-name, noted-here, noted-other}
-use Rattle.dlm_core.proofs.Passing.{call-no_grant}
 use Rattle.dlm_core.proofs.Sending.{calling, not-about}
-use Rattle.dlm_core.proofs.Tracing.{Each, each-append, each-weaker, each-both, each-contained, Says, says-weaker}
-use Rattle.dlm_core.proofs.Truth.{each-past, each-find}
+use Rattle.dlm_core.proofs.Tracing.{each-append, each-both, Says}
 use Rattle.dlm_core.proofs.Holding.{calls_of, lock_in, calls_in, block_in, seen_block, ValOf, GrantOK, Values, val-same, lone, believed-apart, owner-behind, Coming, Comes1, each-coming}
 
 true-false : true ≡ false → ⊥

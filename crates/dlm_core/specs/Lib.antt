@@ -3,6 +3,7 @@ pub mod Deaths
 pub mod Events
 pub mod Lanes
 pub mod Modes
+pub mod Notices
 pub mod Order
 pub mod Recoveries
 pub mod Restored

@@ -20,7 +20,7 @@ use Rattle.dlm_core.specs.declared.events.Event.{Event}
 use Rattle.dlm_core.specs.declared.events.Event.TheVariants as event
 use Rattle.dlm_core.specs.declared.events.Told.TheVariants as told
 use Rattle.dlm_core.specs.Modes.{is_across}
-use Rattle.dlm_core.specs.States.{State, home, recovery, table_at, is_between, past_first, start}
+use Rattle.dlm_core.specs.States.{State, home, recovery, table_at, version_at, is_between, past_first, start}
 use Rattle.dlm_core.specs.Steps.{is_call}
 use Rattle.dlm_core.specs.Recoveries.{block_for, is_open}
 use Rattle.dlm_core.specs.Deaths.{is_lost, was_master, bereft_tables, bereft}
@@ -137,6 +137,12 @@ abbrev pub AreSteps : ℕ → State → List (List Resource) → List (List (Lis
 AreSteps nodes r ts [] us = us ≡ ts
 AreSteps nodes r ts (v ∷ vs) us = ((m : Message) × IsStep nodes r m ts v) × AreSteps nodes r v vs us
 
+-- A grant that is sent behind a claim brings the version of the value block that its name gets. Of one behind a message that was kept back
+-- nothing is said.
+abbrev pub BringsClaimed : (nodes : ℕ) (r : State) (m : Message) (ts us : List (List Resource)) → IsStep nodes r m ts us → Message → Type 0
+BringsClaimed nodes r m ts us (IsStep.Restores t due claim makes is) grant = grant.version ≡ (claimed_block r grant.name).version
+BringsClaimed nodes r m ts us (IsStep.Keeps t due kept makes is) grant = Unit {0}
+
 -- some steps, one after the other
 pub record Leads (nodes : ℕ) (r : State) (ts us : List (List Resource)) : Type 0 where
   pub stops : List (List (List Resource))
@@ -178,13 +184,15 @@ pub data IsAskedFor (nodes : ℕ) (ts : List (List Resource)) (call : Message) (
   Comes : call.owner ≡ owner → call.name ≡ name → call.letter ≡ Ask mode → IsAskedFor nodes ts call owner name mode
 
 -- An event gives what a grant says by the call that it delivers. The call is on the name. Before the event the owner asks for the mode.
--- After it the owner has the lock in the table of the name, with that value block and that mark.
+-- After it the owner has the lock in the table of the name, with that value block and that mark, and the grant has the version that the
+-- name has.
 pub record GivesByCall (s : State) (e : Event) (grant : Message) (mode : Mode) (valid : Bool) : Type 0 where
   pub call : Message
   pub delivers : call_in e s ≡ Some call
   pub on_name : call.name ≡ grant.name
   pub asks : IsAskedFor s.nodes s.tables call grant.owner grant.name mode
   pub gave : Gave s.nodes (after e s).tables grant.owner grant.name mode grant.value valid
+  pub version : grant.version ≡ version_at grant.name (after e s).versions
 
 -- somebody of this node has the name in a mode whose holders write
 abbrev pub writes_on : ℕ → LockName → State → Bool
@@ -192,13 +200,14 @@ writes_on node name s = list_any (is_writer_of node) (resource_at name (table_at
 
 -- A death gives what a grant says. The name was not being recovered, and another node is its master. Before the death the owner's ask
 -- stood in a queue. Once the locks and requests of the dead node are gone, and nothing else has changed, the owner has the lock, with
--- that value block and that mark. The block is not valid where the dead node could write it.
+-- that value block and that mark, and the grant has the version that the name had. The block is not valid where the dead node could write it.
 pub record GivesByDeath (s : State) (dead : ℕ) (grant : Message) (mode : Mode) (valid : Bool) : Type 0 where
   pub open_name : recovery grant.name s ≡ None
   pub stays : was_master dead s grant.name ≡ false
   pub waited : Waits s.nodes s.tables grant.owner grant.name mode
   pub gave : Gave s.nodes (bereft_tables dead s.homes s.tables) grant.owner grant.name mode grant.value valid
   pub cleared : writes_on dead grant.name s ≡ true → valid ≡ false
+  pub version : grant.version ≡ version_at grant.name s.versions
 
 -- One step of the recoveries between these tables gives what a grant says. It is a call on the name. Before it the owner asks for the
 -- mode. After it the owner has the lock, with that value block and that mark.
@@ -212,6 +221,7 @@ pub record GivesBetween (nodes : ℕ) (r : State) (first last : List (List Resou
   pub on_name : call.name ≡ grant.name
   pub asks : IsAskedFor nodes before call grant.owner grant.name mode
   pub gave : Gave nodes behind grant.owner grant.name mode grant.value valid
+  pub version : BringsClaimed nodes r call before behind step grant
 
 -- Which change of an event gives what a grant says: the call that it delivers, the death, or a step of a recovery that ends with it. The
 -- last is only where the name was being recovered before the event.

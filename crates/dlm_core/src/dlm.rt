@@ -5,9 +5,11 @@ ghost use Rattle.dlm_core.specs.States.{start};
 ghost use Rattle.dlm_core.specs.Events.{after, told_of};
 ghost use Rattle.dlm_core.specs.Lanes.{IsSound, BeliefsGoTogether};
 ghost use Rattle.dlm_core.specs.Runs.{GoesByCalls};
+ghost use Rattle.dlm_core.specs.Notices.{notices};
 
 use crate::cluster::Cluster;
 use crate::events::{Event, Told};
+use crate::notices::Notice;
 use crate::rules::BlockRule;
 use plain_cat::NoMemory;
 use std::alloc::Global;
@@ -70,5 +72,13 @@ impl Dlm {
         let told = next.act(alloc, *e)?;
         self.cluster = next;
         Ok(told)
+    }
+
+    /// The notices that the masters have now: for each ask that waits, one to each owner whose lock at the master is in its way.
+    /// They are hints, which may be sent late, twice or not at all, since nothing rests on them. The one error is `NoMemory`.
+    pub fn notices(&self, alloc: Global) -> Result<Vec<Notice>, NoMemory>
+        ensures { IfOk result (λ v. v.items ≡ notices self.now) }
+    {
+        self.cluster.notices(alloc)
     }
 }

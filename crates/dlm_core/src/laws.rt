@@ -1,7 +1,8 @@
 //! What holds of every list of events: laws of the definitions that the contracts cite, and no body does anything.
 
 ghost use Rattle.dlm_core.specs.Answers.{AnswersAreTrue};
-ghost use Rattle.dlm_core.specs.Order.{AsksAreTakenInOrder};
+ghost use Rattle.dlm_core.specs.Notices.{NoticesAreTrue};
+ghost use Rattle.dlm_core.specs.Order.{AsksAreTakenInOrder, QueueIsInOrder};
 ghost use Rattle.dlm_core.specs.Restored.{RecoveriesGrantClaims};
 ghost use Rattle.dlm_core.specs.Runs.{AllGoTogether, GrantsAreTrue, TablesGoByCalls};
 ghost use Rattle.dlm_core.specs.Values.{HoldersHaveTheLastWrite};
@@ -18,8 +19,9 @@ pub fn beliefs_go_together()
 /// node could write the value block, the grant says that it is not valid. Or it was a step of a recovery that ended with the
 /// event, on the name: a claim that was made, with the value block that the rule tells, or a message that was kept back;
 /// this only if the name was being recovered before the event. Before the change the owner asked for the mode;
-/// after it the table of the name had the lock in that mode, with the value block and the mark of the grant. From then on
-/// the grant was on its way.
+/// after it the table of the name had the lock in that mode, with the value block and the mark of the grant. The grant brings
+/// the version that the name has after the call, had before the death, or gets by the claims; behind a message that was kept
+/// back no version is said. From then on the grant was on its way.
 pub fn grants_are_true()
     ensures { GrantsAreTrue }
 {}
@@ -47,6 +49,19 @@ pub fn recoveries_grant_claims()
 /// lower node, and on one node of the lower part.
 pub fn claimed_asks_are_taken_in_order()
     ensures { AsksAreTakenInOrder }
+{}
+
+/// After every list of events the asks that wait at their masters stand in order of names, and on one name no request stands in front
+/// of a conversion; also once the name has been recovered. In this order they are granted.
+pub fn waiting_asks_stand_in_order()
+    ensures { QueueIsInOrder }
+{}
+
+/// After every list of events each notice is true: it comes from the master of its name, where its owner has a lock that does not go
+/// with the mode which another owner waits for. And on each name where somebody waits there is a notice, or an ask or a drop is on its
+/// way to the master from an owner that has a lock there.
+pub fn notices_are_true()
+    ensures { NoticesAreTrue }
 {}
 
 /// Every answer is true. An ask or a drop that is told `Done` has put exactly one message behind the mail, from the owner's

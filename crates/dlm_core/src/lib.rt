@@ -19,6 +19,8 @@
 //! another, or is the death of a node, so a list of events is an order of deliveries and deaths. When a master dies, the
 //! lowest living node takes over its names and recovers them from what the others claim.
 //!
+//! A master has a notice for each owner whose lock is in the way of an ask that waits (`Dlm::notices`); nothing rests on it.
+//!
 //! `dlm_run` uses it.
 #![tactic(auto)]
 
@@ -33,6 +35,7 @@ mod homes;
 pub mod laws;
 mod masters;
 mod messages;
+mod notices;
 mod queue;
 mod recoveries;
 mod rules;
@@ -41,4 +44,5 @@ mod tables;
 pub use dlm::Dlm;
 pub use events::{Event, Told};
 pub use lock_db::{LockName, Mode, NoMemory, Owner};
+pub use notices::Notice;
 pub use rules::BlockRule;

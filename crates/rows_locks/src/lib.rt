@@ -14,6 +14,8 @@ mod extents;
 #[cfg(test)]
 mod holding;
 #[cfg(test)]
+mod notices;
+#[cfg(test)]
 mod random;
 #[cfg(test)]
 mod scripts;
