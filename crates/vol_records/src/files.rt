@@ -3,7 +3,7 @@ ghost use Rattle.std.specs.Prelude.{◌≡◌, ◌≤◌, IfOk, IfSome, option_m
 ghost use Rattle.fx_home.specs.Homes.{IsWithinLimits};
 ghost use Rattle.vol_faults.specs.Conditions.{IsSize};
 ghost use Rattle.vol_parts.specs.Volumes.{volume, IsNumber};
-ghost use Rattle.vol_parts.specs.Conditions.{HasAllRunsInside};
+ghost use Rattle.vol_parts.specs.Conditions.{HasRunsInside};
 ghost use Rattle.vol_parts.specs.Findings.{Weak};
 ghost use Rattle.vol_records.specs.Streams.{blocks_below, end_at, stream_in, plain_file, stream_of, stream_at};
 
@@ -68,8 +68,11 @@ fn plain_file(home: &Home, blocks: &[Block], n: u32, seq: u16) -> Option<Hdr>
     }
 }
 
-// The stream of a file of a volume whose home block is read.
-fn stream_of(
+/// The stream of the file that is in use under a number and a sequence, of a volume whose home block is read: its bytes up to its
+/// end, where blocks from its mark on show zeros. `None` comes where no such file is in use, or it is a directory.
+///
+/// The runs of the file lie inside the whole clusters. Of other files nothing is asked. An error says that memory ran out.
+pub fn stream_of(
     alloc: Global,
     home: &Home,
     blocks: &[Block],
@@ -77,7 +80,7 @@ fn stream_of(
     seq: u16,
 ) -> Result<Option<Vec<u8>>, NoMemory>
     requires limits { IsWithinLimits home.now }
-    requires runs { HasAllRunsInside (volume home.now blocks.now) }
+    requires runs { IsNumber (volume home.now blocks.now) n → HasRunsInside (volume home.now blocks.now) n }
     ensures { IfOk result (λ s. option_map (λ v. v.items) s ≡ stream_of (volume home.now blocks.now) n seq) }
 {
     let Some(f) = plain_file(home, blocks, n, seq) else {

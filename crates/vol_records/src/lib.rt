@@ -39,7 +39,7 @@ mod storing;
 mod texts;
 mod types;
 
-pub use files::stream;
+pub use files::{stream, stream_of};
 pub use laws::{
     data_is_accepted, faults_are_first, read_back, reading_is_exact, streams_are_shown,
     texts_print_back,

@@ -1,5 +1,5 @@
 -- The last part of a repair: what mending makes of blocks that spell the patched catalogue.
-use Rattle.std.proofs.Common.{◌≡◌, ◌∙◌, ◌≤◌, ◌⊎◌, ℕ, List, Option, Some, None, refl, sym, ap, subst, inl, inr}
+use Rattle.std.proofs.Common.{◌≡◌, ◌∙◌, ◌≤◌, ◌<◌, ◌⊎◌, ℕ, List, Option, Some, None, refl, sym, ap, subst, inl, inr, arith}
 use Rattle.std.specs.Prelude.{Result, Ok, Err, IfOk}
 use Rattle.base_words.specs.Fields.{Block}
 use Rattle.base_words.specs.Faults.{Rose}
@@ -15,8 +15,9 @@ use Rattle.vol_parts.specs.declared.finding.Finding.{Finding}
 use Rattle.vol_parts.specs.declared.finding.Finding.TheVariants as finding
 use Rattle.vol_parts.specs.declared.geometry.Geometry.{Geometry}
 use Rattle.vol_parts.specs.Fatal.{HasNoRoom}
-use Rattle.vol_parts.specs.Findings.{home_at, IsFatal, IsFirstFatal, IsCatalogueBy}
+use Rattle.vol_parts.specs.Findings.{home_at, rank, IsFatal, IsFirstFatal, IsCatalogueBy}
 use Rattle.vol_parts.specs.Volumes.{Volume, volume, geometry_of}
+use Rattle.vol_faults.specs.Whole.{IsRead}
 use Rattle.vol_faults.specs.CatFindings.{IsFatalOf}
 use Rattle.vol_faults.proofs.RoomLemmas.{no-room-exact}
 use Rattle.vol_mends.specs.Mends.{Mends}
@@ -79,6 +80,22 @@ module _ (home : Home) (first now : List Block) (p : IsPatched home first now) w
       let k = patched_findings home first p.mendable.within p.mendable.system f h in
       (k.0, k.1, subst (λ (x : Finding). IsFatalOf (patched v) x) k.1 h)
 
+  -- so there is none that reading looks for
+  pub none_read : (x : Result Cat Finding) (f : Finding) → IsRead now x → x ≡ Err f → ⊥
+  none_read x f h e =
+      let k : (rank f < 16) × IsFirstFatal now f = subst (λ (y : Result Cat Finding). IsRead now y) e h in
+      let room = only_room f k.1.fatal in
+      let at : rank f ≡ 16 = ap rank room.1 in
+      let below = k.0 in
+      absurd (omega arith)
+
+  same_cat : (r : Result Home HomeFault) (c d : Cat) → IsCatalogueBy now r c → IsCatalogueBy now r d → c ≡ d
+  same_cat (Err bad) c d a b = absurd a
+  same_cat (Ok h) c d a b = a ∙ sym b
+
+  pub read_patched : (c : Cat) → IsRead now (Ok c) → c ≡ patched v
+  read_patched c h = same_cat (home_read (home_at now)) c (patched v) h.1 told
+
   -- and there is one where mending gives up
   room_there : mended (patched v) ≡ None → (n : ℕ) × IsFatal now (finding.NoRoom n)
   room_there e =
@@ -104,10 +121,6 @@ module _ (home : Home) (first now : List Block) (p : IsPatched home first now) w
       spelt_mends g now p.left.own (patched v) z p.left.spelt p.left.none (can_mend z done e) (done, (let same : mended (shut (patched v)) ≡ mended (patched v) = ap mended (patched_shut v) in same ∙ e))
 
   -- ---- what mending answers
-
-  same_cat : (r : Result Home HomeFault) (c d : Cat) → IsCatalogueBy now r c → IsCatalogueBy now r d → c ≡ d
-  same_cat (Err bad) c d a b = absurd a
-  same_cat (Ok h) c d a b = a ∙ sym b
 
   finished : (new : List Block) (done : Mended) → IsRebuilt now new done → IsFinished v new done
   finished new done r = record {

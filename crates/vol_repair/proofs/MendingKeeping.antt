@@ -6,7 +6,6 @@ use Rattle.std.proofs.lemmas.List.{length-set, length-map}
 use Rattle.std.proofs.lemmas.List.FromFn.{length-map-range_with_len}
 use Rattle.base_words.specs.Fields.{Block}
 use Rattle.base_words.specs.Lists.{Has}
-use Rattle.base_words.proofs.Listing.{has_first}
 use Rattle.fx_home.specs.declared.home.Home.{Home}
 use Rattle.fx_home.specs.declared.home.HomeFault.{HomeFault}
 use Rattle.fx_home.specs.Homes.{home_read}
@@ -22,7 +21,7 @@ use Rattle.plain_rules.proofs.Standing.{stands_at}
 use Rattle.plain_rules.proofs.MendSteps.{each_length}
 use Rattle.plain_laws.proofs.Standing.{file_from}
 use Rattle.plain_laws.proofs.Places.{Names, names_from, names_to}
-use Rattle.plain_laws.proofs.Steps.{Like, SameFiles, like_left, like_right, less_same, Entered, entered_same, new_place, entered_in, entered_new, all_on, some_on, both_from, kept_from, kept_to, mends_from}
+use Rattle.plain_laws.proofs.Steps.{Like, SameFiles, like_left, like_right, less_same, Entered, entered_in, both_from, kept_from, kept_to, mends_from}
 use Rattle.plain_laws.proofs.ClearSteps.{kept_same, kept_in}
 use Rattle.plain_mends.proofs.FullSteps.{shape_by}
 use Rattle.plain_mends.proofs.SlotSteps.{lost_has}

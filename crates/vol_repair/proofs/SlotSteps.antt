@@ -3,15 +3,15 @@ use Rattle.std.proofs.Common.{◌≡◌, ◌≢◌, ◌∙◌, ◌⊎◌, ◌<�
 use Rattle.std.specs.Prelude.{◌&&◌, Result, Ok, Err, map, nat_lt, slice_index_or}
 use Rattle.std.proofs.lemmas.Bool.{cases_lt}
 use Rattle.std.proofs.Math.ListN.{length-set}
-use Rattle.base_words.specs.Fields.{Block, AreWholeBlocks, field, has_sum}
+use Rattle.base_words.specs.Fields.{Block, AreWholeBlocks, field}
 use Rattle.base_words.proofs.Listing.{same_or_not}
 use Rattle.fx_home.specs.declared.home.Home.{Home}
 use Rattle.fx_home.specs.Homes.{IsWithinLimits}
 use Rattle.fx_header.specs.declared.slot.Slot.{Slot}
 use Rattle.fx_header.specs.declared.slot.Slot.TheVariants.{Used, Free}
 use Rattle.fx_header.specs.declared.slot.HeaderFault.{HeaderFault}
-use Rattle.fx_header.specs.declared.slot.HeaderFault.TheVariants.{BadSum, BadLevel, BadOffsets, BadRvn, BadExtension, BadMap, BadEnd}
-use Rattle.fx_header.specs.Headers.{is_free, has_level, has_offsets, is_on_this_volume, has_segment, has_map, has_end, header_read, fields_of, freed as free_block}
+use Rattle.fx_header.specs.declared.slot.HeaderFault.TheVariants.{BadSum}
+use Rattle.fx_header.specs.Headers.{header_read, freed as free_block}
 use Rattle.vol_parts.specs.Volumes.{Volume, volume, IsNumber, numbers, header_lbn, header_at, head}
 use Rattle.vol_sound.specs.Sound.{is_kept, is_free_slot}
 use Rattle.vol_sound.specs.Freeing.{HasSystem, seq_at, IsSlotLeft, HasSlotsFreed, LeavesOthers, with_freed, IsOneFreed}

@@ -1,7 +1,6 @@
 -- Ways and steps, one after another.
-use Rattle.std.proofs.Common.{◌≡◌, ◌≤◌, ◌⊎◌, ◌++◌, ◌-◌, ◌+◌, ◌<◌, ◌∙◌, zero, suc, ℕ, List, [], ◌∷◌, Option, Some, None, Result, Ok, Err, ap, All, get_or, length, take, slice_get, slice_set, refl, sym, subst, inl, inr, arith}
+use Rattle.std.proofs.Common.{◌≡◌, ◌≤◌, ◌⊎◌, ◌++◌, ◌-◌, ◌<◌, ◌∙◌, zero, suc, ℕ, List, [], ◌∷◌, Option, Some, None, Result, Ok, Err, ap, get_or, length, take, slice_get, slice_set, refl, sym, subst, inl, inr, arith}
 use Rattle.std.specs.Prelude.{slice_index_or}
-use Rattle.std.proofs.lemmas.Bool.{cases_lt}
 use Rattle.std.proofs.lemmas.Option.{slice_get-get_or}
 use Rattle.base_words.specs.Fields.{Block}
 use Rattle.base_words.specs.Faults.{Rose}
@@ -15,7 +14,7 @@ use Rattle.vol_repair.specs.declared.fault.StepFault.TheVariants.{ImageFault, No
 use Rattle.vol_repair.specs.Steps.{IsWay, IsAhead, IsStep}
 use Rattle.blk_drive.specs.Telling.{IsTold as Shows}
 use Rattle.blk_drive.specs.Telling.{told_as}
-use Rattle.vol_rebuild.proofs.Stepping.{written_next, set_as, on_volume, moves_made, move_made}
+use Rattle.vol_rebuild.proofs.Stepping.{set_as}
 
 -- ---- ways
 

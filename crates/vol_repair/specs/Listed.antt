@@ -1,9 +1,8 @@
 -- Where the blocks of a directory stand, by its header.
-use Rattle.std.specs.Prelude.{◌<◌, ℕ, List, [], All, Option, Some, None, length}
+use Rattle.std.specs.Prelude.{◌<◌, ℕ, List, All, length}
 use Rattle.base_words.specs.Fields.{Block}
 use Rattle.fx_header.specs.declared.run.Run.{Run}
-use Rattle.fx_header.specs.declared.slot.Hdr.{Hdr}
-use Rattle.fx_header.specs.Headers.{header_read, runs_in}
+use Rattle.fx_header.specs.Headers.{header_read}
 use Rattle.fx_header.specs.Pointers.{lbns_in}
 use Rattle.vol_parts.specs.declared.geometry.Geometry.{Geometry}
 use Rattle.vol_parts.specs.Volumes.{fields_in, runs_with}

@@ -36,6 +36,12 @@ pub record IsPatched (home : Home) (first now : List Block) : Type 0 where
   pub mendable : IsMendable home first
   pub left : IsSpeltAs (geometry_of (volume home now)) now (patched (volume home first))
 
+-- the catalogue that mending is to get of blocks in which nothing is beyond repair
+pub record IsPatchedCat (bs : List Block) (c : Cat) : Type 0 where
+  pub home : Home
+  pub mendable : IsMendable home bs
+  pub same : c ≡ patched (volume home bs)
+
 -- the blocks are accepted, and tell what mending gets from the patched catalogue of a volume
 pub record IsFinished (v : Volume) (new : List Block) (done : Mended) : Type 0 where
   pub after : Cat

@@ -7,6 +7,8 @@
 //! let done = repair(alloc, &mut mirror)?;
 //! ```
 //!
+//! `patch_all` does what comes before mending, and gives the patched catalogue: for who only looks at a damaged volume, on a copy.
+//!
 //! Ok comes with an accepted volume, whose catalogue is that to which mending takes the patched one (`repaired`). After each of its
 //! writes nothing is beyond repair, and every file that was sound is so still, except one that is marked for delete and an empty lost
 //! one that has no room (`step`): so a repair that is stopped anywhere can be made again. If something is beyond repair nothing is
@@ -39,4 +41,4 @@ pub use laws::{
     touching_is_easy,
 };
 pub use plain_cat::Mended;
-pub use repairing::repair;
+pub use repairing::{patch_all, repair};

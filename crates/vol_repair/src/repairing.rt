@@ -1,17 +1,19 @@
 //! A repair, step by step.
 
-ghost use Rattle.std.specs.Prelude.{◌≡◌, Err, Ok, length, IfOk, OnOk};
-ghost use Rattle.base_words.specs.Fields.{AreWholeBlocks};
+ghost use Rattle.std.specs.Prelude.{◌≡◌, List, Err, Ok, length, IfOk, OnOk};
+ghost use Rattle.base_words.specs.Fields.{Block, AreWholeBlocks};
+ghost use Rattle.fx_home.specs.declared.home.Home.{Home};
 ghost use Rattle.fx_home.specs.Homes.{home_read, IsWithinLimits};
 ghost use Rattle.vol_faults.specs.Conditions.{IsSize};
 ghost use Rattle.vol_parts.specs.declared.finding.Finding.{Finding};
 ghost use Rattle.vol_parts.specs.Findings.{home_at};
 ghost use Rattle.vol_parts.specs.Volumes.{volume};
+ghost use Rattle.vol_sound.specs.Begun.{patched};
 ghost use Rattle.vol_sound.specs.Beyond.{IsBeyond, IsFirstBeyond};
 ghost use Rattle.vol_sound.specs.Sound.{freed_slots};
 ghost use Rattle.vol_repair.specs.Keeping.{NoneIsBeyond, KeepsSound, Keeps};
 ghost use Rattle.vol_repair.specs.Laws.{IsMendable};
-ghost use Rattle.vol_repair.specs.Patching.{IsPatched};
+ghost use Rattle.vol_repair.specs.Patching.{IsPatched, IsPatchedCat};
 ghost use Rattle.vol_repair.specs.Repaired.{IsRepaired, IsRoomless, IsRefusal};
 ghost use Rattle.vol_repair.specs.Steps.{IsStep};
 
@@ -23,7 +25,9 @@ use crate::phases::begin;
 use base_words::Block;
 use blk_drive::{ImageDev, Mirror};
 use fx_home::{Home, read_home};
+use plain_cat::{Cat, NoMemory};
 use std::alloc::Global;
+use vol_faults::read_whole;
 use vol_parts::blocks_are_whole;
 use vol_sound::first_beyond;
 
@@ -116,4 +120,36 @@ pub fn repair<I: ImageDev>(alloc: Global, m: &mut Mirror<I>) -> Result<Repaired,
     }
     let home = home_of(m.all());
     repair_mendable(alloc, m, &home)
+}
+
+// The catalogue of blocks that spell the patched one of others.
+fn told_patched(alloc: Global, blocks: &[Block]) -> Result<Cat, NoMemory>
+    requires size { IsSize (length blocks.now) }
+    requires patched { (home : Home) × (first : List Block) × IsPatched home first blocks.now }
+    ensures { (home : Home) (first : List Block) → IsPatched home first blocks.now → IfOk result (λ cat. cat ≡ patched (volume home first)) }
+{
+    let Ok(cat) = read_whole(alloc, blocks)? else {
+        unreachable!()
+    };
+    Ok(cat)
+}
+
+/// Does all that a repair does before mending, and gives the catalogue that mending gets then: of the files that are kept, with their
+/// owners and entries. What stands on the drive then is of no use but to `repair`.
+///
+/// `NotRepairable` tells the first finding beyond repair, if there is one, and nothing is written then. `ImageFault` comes where a write
+/// of the image failed, and `NoMemory` where memory ran out.
+pub fn patch_all<I: ImageDev>(alloc: Global, m: &mut Mirror<I>) -> Result<Cat, RepairFault>
+    ensures patched { IfOk result (IsPatchedCat m.old.blocks) }
+    ensures refused { (f : Finding) → result ≡ Err (RepairFault.NotRepairable f) → IsFirstBeyond m.old.blocks f }
+    ensures roomless { (f : Finding) → result ≡ Err (RepairFault.NoRoom f) → ⊥ }
+{
+    drive_is_whole(m);
+    if let Some(found) = first_beyond(alloc, m.all())? {
+        return Err(RepairFault::NotRepairable(found));
+    }
+    let home = home_of(m.all());
+    prepare(alloc, m, &home)?;
+    drive_is_whole(m);
+    Ok(told_patched(alloc, m.all())?)
 }
