@@ -12,3 +12,7 @@ pub mod SomeStatus
 pub mod SomeVerdict
 pub mod Speaking
 pub mod Told
+pub mod Opening
+pub mod Settling
+pub mod InPlace
+pub mod Dropping

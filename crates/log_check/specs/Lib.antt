@@ -8,3 +8,4 @@ pub mod Sayings
 pub mod Statuses
 pub mod Steps
 pub mod Verdicts
+pub mod Tidying

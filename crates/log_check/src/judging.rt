@@ -1,9 +1,10 @@
 //! A whole report, judged line by line up to its last line.
 
-ghost use Rattle.std.specs.Prelude.{◌≡◌, ◌≤◌, ◌<◌, ◌^◌, ◌+◌, ◌↔◌, drop, length, IfOk, IsTrue};
+ghost use Rattle.std.specs.Prelude.{◌≡◌, ◌≤◌, ◌<◌, ◌^◌, ◌+◌, ◌↔◌, true, drop, length, IfOk, IsTrue};
 ghost use Rattle.plain_rules.specs.Lookups.{free_clusters};
 ghost use Rattle.plain_rules.specs.Accounts.{Accounted};
 ghost use Rattle.log_check.specs.Histories.{closing_text};
+ghost use Rattle.log_check.specs.Tidying.{IsSettled};
 ghost use Rattle.log_check.specs.Steps.{is_at_end, one_if, IsVerdict};
 
 use crate::steps::{Step, judge_line};
@@ -98,9 +99,10 @@ fn one_more(count: usize, is_so: bool) -> usize
     if is_so { count + 1 } else { count }
 }
 
-/// Judges a report on the catalogue of a volume.
-pub fn judge(alloc: Global, cat: Cat, text: &[u8]) -> Result<Verdict, NoMemory>
-    requires { Accounted cat }
+// Judges a report on a catalogue, which may be known to be settled: then it stays so.
+fn judge_from(alloc: Global, cat: Cat, settled: bool, text: &[u8]) -> Result<Verdict, NoMemory>
+    requires cat { Accounted cat }
+    requires settled { settled ≡ true → IsSettled cat }
     ensures { IfOk result (IsVerdict cat text.now) }
 {
     let mut now = cat;
@@ -116,7 +118,7 @@ pub fn judge(alloc: Global, cat: Cat, text: &[u8]) -> Result<Verdict, NoMemory>
                 after: now,
             });
         }
-        let step = judge_line(alloc, now, entries + 1, rest)?;
+        let step = judge_line(alloc, now, settled, entries + 1, rest)?;
         match step {
             Step::Next {
                 after,
@@ -134,4 +136,21 @@ pub fn judge(alloc: Global, cat: Cat, text: &[u8]) -> Result<Verdict, NoMemory>
             Step::Stop => return Ok(Verdict::Illegal(entries + 1)),
         }
     }
+}
+
+/// Judges a report on a catalogue. A mending in it is worked out, so a line of a mending costs as much as the catalogue has entries times files.
+pub fn judge(alloc: Global, cat: Cat, text: &[u8]) -> Result<Verdict, NoMemory>
+    requires { Accounted cat }
+    ensures { IfOk result (IsVerdict cat text.now) }
+{
+    judge_from(alloc, cat, false, text)
+}
+
+/// Judges a report on the catalogue of an accepted volume. A line costs what it changes, and a mending one look at each file number.
+pub fn judge_settled(alloc: Global, cat: Cat, text: &[u8]) -> Result<Verdict, NoMemory>
+    requires cat { Accounted cat }
+    requires settled { IsSettled cat }
+    ensures { IfOk result (IsVerdict cat text.now) }
+{
+    judge_from(alloc, cat, true, text)
 }

@@ -36,12 +36,13 @@ mod shutting;
 mod status;
 mod steps;
 mod tell;
+mod tidying;
 mod top;
 mod volumes;
 
 pub use commands::{Given, read_command};
 pub use drafts::{Death, read_death, read_mending};
-pub use judging::{Verdict, judge};
+pub use judging::{Verdict, judge, judge_settled};
 pub use laws::one_status_is_due;
 pub use line_laws::a_report_has_one_verdict;
 pub use lines::{Draft, body_of, draft_of, reply_of, shown_number};

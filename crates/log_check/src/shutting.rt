@@ -7,7 +7,8 @@ ghost use Rattle.log_check.specs.Checks.{shut};
 use plain_cat::{Cat, Channels, NoMemory};
 use std::alloc::Global;
 
-fn closed(alloc: Global, channels: &Channels) -> Result<Channels, NoMemory>
+/// As many channels, with nothing open.
+pub(crate) fn closed(alloc: Global, channels: &Channels) -> Result<Channels, NoMemory>
     ensures { IfOk result (λ os. os ≡ map (λ (o : Option Open). None) channels.now) }
 {
     let mut shut = Channels::new(alloc);

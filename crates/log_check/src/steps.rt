@@ -1,16 +1,19 @@
 //! One line, judged: an answer, a death or a mending, and the catalogue after it.
 
-ghost use Rattle.std.specs.Prelude.{◌≡◌, ◌<◌, ◌≤◌, ◌++◌, ◌↔◌, true, false, drop, length, Some, IfOk, IsTrue};
+ghost use Rattle.std.specs.Prelude.{◌≡◌, ◌<◌, ◌≤◌, ◌++◌, ◌↔◌, true, false, drop, length, None, Some, IfOk, IfSome, IsTrue};
 ghost use Rattle.plain_cat.specs.InForm.{is_eighth};
 ghost use Rattle.plain_texts.specs.Reports.{line_text};
 ghost use Rattle.plain_rules.specs.Accounts.{Accounted};
+ghost use Rattle.plain_rules.specs.Mending.{mended};
 ghost use Rattle.plain_cat.specs.declared.history.Entry.TheVariants as EntryOf;
 ghost use Rattle.log_check.specs.Commands.{IsSpeaking};
 ghost use Rattle.log_check.specs.Lines.{body_of, IsDrafted};
+ghost use Rattle.log_check.specs.Tidying.{IsSettled};
 ghost use Rattle.log_check.specs.Steps.{BeginsWith, IsEntryStep, IsAnswerStep, is_told, IsDeathStep, IsStep};
 
 use crate::answers::choose;
 use crate::deaths::{death_line, is_told};
+use crate::tidying::{does, tidied};
 use crate::{Death, Draft, Given, body_of, draft_of, reply_of};
 use plain_cat::{Cat, Entry, Mended, NoMemory, NumberList};
 use plain_texts::push_line;
@@ -147,30 +150,56 @@ fn judge_death(
     Ok(Step::Stop)
 }
 
+// The catalogue after a mending that does just this, or none if a mending does something else.
+fn mended_as(
+    alloc: Global,
+    cat: Cat,
+    settled: bool,
+    counts: Mended,
+) -> Result<Option<Cat>, NoMemory>
+    requires cat { Accounted cat }
+    requires settled { settled ≡ true → IsSettled cat }
+    ensures some { IfOk result (λ o. IfSome o (λ d. (mended cat ≡ Some (d, counts)) × Accounted d)) }
+    ensures none { IfOk result (λ o. o ≡ None → (d : Cat) → mended cat ≡ Some (d, counts) → ⊥) }
+{
+    if settled {
+        if !does(&cat, counts) {
+            return Ok(None);
+        }
+        let after = tidied(alloc, cat)?;
+        return Ok(Some(after));
+    }
+    match check_reply(alloc, &cat, &Entry::Mended(counts))? {
+        Checked::Legal(after) => Ok(Some(after)),
+        Checked::Illegal => Ok(None),
+    }
+}
+
 // Judges a line that is about a mending with these counts.
 fn judge_mending(
     alloc: Global,
-    cat: &Cat,
+    cat: Cat,
+    settled: bool,
     i: usize,
     text: &[u8],
     counts: Mended,
 ) -> Result<Step, NoMemory>
-    requires { Accounted cat.now }
-    ensures { IfOk result (IsEntryStep i cat.now text.now (EntryOf.Mended counts)) }
+    requires cat { Accounted cat }
+    requires settled { settled ≡ true → IsSettled cat }
+    ensures { IfOk result (IsEntryStep i cat text.now (EntryOf.Mended counts)) }
 {
-    let entry = Entry::Mended(counts);
-    let line = line_of(alloc, i, &entry)?;
+    let line = line_of(alloc, i, &Entry::Mended(counts))?;
     if !starts_so(text, line.as_slice()) {
         return Ok(Step::Stop);
     }
-    match check_reply(alloc, cat, &entry)? {
-        Checked::Legal(after) => Ok(Step::Next {
+    match mended_as(alloc, cat, settled, counts)? {
+        Some(after) => Ok(Step::Next {
             after,
             used: line.len(),
             answered: false,
             died: false,
         }),
-        Checked::Illegal => Ok(Step::Stop),
+        None => Ok(Step::Stop),
     }
 }
 
@@ -178,11 +207,13 @@ fn judge_mending(
 fn judge_draft(
     alloc: Global,
     cat: Cat,
+    settled: bool,
     i: usize,
     text: &[u8],
     draft: Draft,
 ) -> Result<Step, NoMemory>
     requires cat { Accounted cat }
+    requires settled { settled ≡ true → IsSettled cat }
     requires drafted { IsDrafted (body_of text.now) (Some draft) }
     ensures { IfOk result (IsStep i cat text.now) }
 {
@@ -196,20 +227,28 @@ fn judge_draft(
             Ok(died)
         }
         Draft::Mending(counts) => {
-            let mended = judge_mending(alloc, &cat, i, text, counts)?;
+            let mended = judge_mending(alloc, cat, settled, i, text, counts)?;
             Ok(mended)
         }
     }
 }
 
-/// Judges the line that stands at the front of a text, where it has this number, on the catalogue before it.
-pub fn judge_line(alloc: Global, cat: Cat, i: usize, text: &[u8]) -> Result<Step, NoMemory>
-    requires { Accounted cat }
+/// Judges the line that stands at the front of a text, where it has this number, on the catalogue before it. If the catalogue is settled,
+/// a mending is known without being worked out.
+pub fn judge_line(
+    alloc: Global,
+    cat: Cat,
+    settled: bool,
+    i: usize,
+    text: &[u8],
+) -> Result<Step, NoMemory>
+    requires cat { Accounted cat }
+    requires settled { settled ≡ true → IsSettled cat }
     ensures { IfOk result (IsStep i cat text.now) }
 {
     let read = draft_of(alloc, body_of(text))?;
     match read {
-        Some(draft) => judge_draft(alloc, cat, i, text, draft),
+        Some(draft) => judge_draft(alloc, cat, settled, i, text, draft),
         None => Ok(Step::Stop),
     }
 }

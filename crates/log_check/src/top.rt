@@ -3,6 +3,7 @@
 ghost use Rattle.std.specs.Prelude.{◌≡◌, ◌≤◌, ◌⊎◌, [], IfOk, IfErr, IfSome, vec_len};
 ghost use Rattle.base_words.specs.Faults.{Rose};
 ghost use Rattle.plain_rules.specs.Accounts.{Accounted};
+ghost use Rattle.log_check.specs.Tidying.{IsSettled};
 ghost use Rattle.log_check.specs.Checks.{IsLegalBetween, LeadsTo, IsEndFrom, IsLegalOn, IsEndOn};
 ghost use Rattle.log_check.specs.Statuses.{given, IsTextEnd, IsCheckDue, IsEnd, Writes};
 
@@ -47,7 +48,8 @@ fn judge_opened<I: ImageDev, J: ImageDev>(
     second: Mirror<J>,
     text: &[u8],
 ) -> Judged<I, J>
-    requires { Accounted opening }
+    requires accounted { Accounted opening }
+    requires settled { IsSettled opening }
     ensures legal { IfOk result.outcome (λ k. LeadsTo second.blocks (λ e. IsLegalBetween opening e text.now k)) }
     ensures end { IfErr result.outcome (IsEndFrom opening second.blocks text.now) }
     ensures before { result.before ≡ before }

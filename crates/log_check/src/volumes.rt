@@ -4,12 +4,13 @@ ghost use Rattle.std.specs.Prelude.{◌≡◌, IfOk, IfErr, length};
 ghost use Rattle.blk_drive.specs.Images.{IsInside};
 ghost use Rattle.plain_rules.specs.Accounts.{Accounted};
 ghost use Rattle.vol_parts.specs.Findings.{Accepts, CatOf};
+ghost use Rattle.log_check.specs.Tidying.{IsSettled};
 ghost use Rattle.log_check.specs.Checks.{IsLegalBetween, IsNotLegal, IsNotAccepted, IsNotMendable, load_status};
 
 use crate::sameness::is_same_cat;
 use crate::shutting::shut;
 use crate::status::CheckStatus;
-use crate::{Verdict, judge};
+use crate::{Verdict, judge_settled};
 use base_words::Block;
 use blk_drive::LoadFault;
 use plain_cat::Cat;
@@ -34,6 +35,7 @@ pub(crate) fn cat_before(alloc: Global, blocks: &[Block]) -> Result<Cat, CheckSt
     requires { IsInside (length blocks.now) }
     ensures told { IfOk result (λ c. Accepts blocks.now × CatOf blocks.now c) }
     ensures accounted { IfOk result Accounted }
+    ensures settled { IfOk result IsSettled }
     ensures end { IfErr result (IsNotAccepted blocks.now) }
 {
     blocks_are_whole(blocks);
@@ -64,11 +66,12 @@ pub(crate) fn judge_between(
     after: &Cat,
     text: &[u8],
 ) -> Result<usize, CheckStatus>
-    requires { Accounted before }
+    requires accounted { Accounted before }
+    requires settled { IsSettled before }
     ensures legal { IfOk result (IsLegalBetween before after.now text.now) }
     ensures end { IfErr result (IsNotLegal before after.now text.now) }
 {
-    match judge(alloc, before, text) {
+    match judge_settled(alloc, before, text) {
         Ok(
             Verdict::Legal {
                 entries,
