@@ -180,7 +180,7 @@ def faults():
                     yield f"{name}:{number}: no {word} in the sources"
                 elif re.fullmatch(r"[a-z][a-z0-9]*(_[a-z0-9]+)+|[A-Z][a-z0-9]+([A-Z][a-z0-9]*)+", word) and word not in words and word not in listed:
                     yield f"{name}:{number}: no {word} in the sources"
-            for number_of, what in re.findall(r"\b([\d,]+) (crates|must-fail edits|tests of crates)\b", line):
+            for number_of, what in re.findall(r"\b(\d[\d,]*) (crates|must-fail edits|tests of crates)\b", line):
                 if int(number_of.replace(",", "")) != counts[what] and name.name != "CHANGELOG.md":
                     yield f"{name}:{number}: {number_of} {what}, and there are {counts[what]}"
 

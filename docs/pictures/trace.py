@@ -122,7 +122,7 @@ def draw(all_events, first, last, title):
 
 def legend():
     x = 16
-    for word, rest, line in [("lock", "granted", "lock"), ("read", "", "read"), ("hit", "", "cache hit"), ("write", ", stage", "write"), ("write", "", "bitmap write"),
+    for word, rest, line in [("lock", "granted", "lock"), ("read", "", "read"), ("hit", "", "cache hit"), ("write", ", stage", "write"), ("write", "", "write for space"),
                              ("stock", "", "stock filled or back"), ("answers", "", "answer"), ("dies", "", "death"), ("leaves", "", "leaves")]:
         yield mark(x, 52 + (7 if word == "answers" else 0), word, rest)
         yield text(x + 12, 56, line, "small")
