@@ -134,10 +134,10 @@ def statuses():
     p.box(578, 10, 200, 40, ["the status"], "plain")
     rows = [
         ("0", "done", ["nothing; if a line", "says died: rebuild"], "cool"),
-        ("1, 2, 3, 9", "words or script", ["mend them,", "and call again"], "box"),
+        ("1, 2, 3, 9", "words or script", ["correct them,", "and call again"], "box"),
         ("4", "the image", ["readable? writable?", "no other program?"], "box"),
         ("5", "the volume", ["analyze shows", "what is wrong"], "warm"),
-        ("6", "output or sync", ["do not run it again;", "copy, then look"], "warm"),
+        ("6", "output or sync", ["the job is done:", "do not run it again"], "warm"),
         ("7", "memory", ["give it more"], "box"),
         ("10, 11", "file or records", ["another file or text;", "nothing was written"], "box"),
         ("12", "beyond repair", ["restore a copy", "from before"], "warm"),
@@ -152,19 +152,18 @@ def statuses():
             p.text(x + 75, 204 - 8 * (len(does) - 1) + 17 * k, line, "small")
     p.box(280, 290, 230, 50, ["rebuild", "again, as often as it is stopped"], "cool")
     p.arrow([(420, 230), (390, 288)])
-    p.text(250, 264, "if a job had begun to write", "small")
+    p.text(250, 264, "if run or rebuild had begun to write", "small")
     p.arrow([(580, 230), (470, 288)])
     p.text(548, 274, "not fatal", "small", "start")
     p.arrow([(930, 230), (930, 315), (512, 315)])
-    p.text(830, 308, "if a job had begun", "small")
+    p.text(830, 308, "if run or rebuild had begun", "small")
     p.arrow([(395, 340), (395, 378)])
     p.box(260, 380, 270, 56, ["look with LIST and STAT", "which commands were done"], "box")
-    p.box(600, 380, 270, 56, ["repair a copy, or restore one", "no room in [SYSLOST]: restore one"], "warm")
+    p.box(600, 380, 270, 56, ["restore a copy, or repair one", "no room in [SYSLOST]: restore one"], "warm")
     p.arrow([(620, 230), (710, 378)])
     p.text(686, 274, "fatal", "small", "start")
     p.arrow([(490, 340), (610, 390)])
     p.text(560, 356, "not mendable", "small", "start")
-    p.arrow([(762, 230), (762, 364), (515, 364), (515, 378)])
     p.save()
 
 
