@@ -11,7 +11,7 @@
 //!
 //! It promises nothing: no contract says what these values are, and no program uses them. The tests that use them compare.
 //!
-//! The crates of tests of whole calls (`rows_runs`, `rows_stops`, `rows_hostile`, `rows_reports`, `rows_live`) use it.
+//! The crates of tests of whole calls (`rows_runs`, `rows_stops`, `rows_mends`, `rows_hostile`, `rows_reports`, `rows_live`) use it.
 #![tactic(auto)]
 
 mod calls;

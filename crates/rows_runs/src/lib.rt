@@ -1,6 +1,6 @@
 //! Worked rows of the top call: what runs of scripts print and leave. The crate has tests alone.
 //!
-//! The rows are data, and `rows_calls` goes through them. What a row cannot say stands in `caches`, `endings` and `soaks`.
+//! The rows are data, and `rows_calls` goes through them. What a row cannot say stands in `caches`, `endings`, `soaks` and `stocks`.
 //!
 //! ```text
 //! Row { on: On::Fresh, first: &[], each: &[&[Step::Made(script, report)]] }
@@ -33,6 +33,8 @@ mod quotas;
 mod records;
 #[cfg(test)]
 mod soaks;
+#[cfg(test)]
+mod stocks;
 #[cfg(test)]
 mod stores;
 #[cfg(test)]

@@ -1,12 +1,12 @@
 //! Soaks: which words ask for one, what its summary is, and what is told where a write of one fails.
 
 use rows_calls::{
-    Exchange, On, Row, Step, Stop, answered, call, failing, image_of, lines_with, play, text_of,
-    volume, zeros,
+    Exchange, On, Row, Step, Stop, answered, call, failing, lines_with, play, text_of, volume,
+    zeros,
 };
 use std::test::Fail;
 
-/// Words that ask for none.
+/// Words that ask for none, and the greatest number.
 const BAD: &[Row<'static>] = &[Row {
     on: On::Zeros(0),
     first: &[
@@ -18,6 +18,7 @@ const BAD: &[Row<'static>] = &[Row {
         Step::Call(&["soak", "000001"], "", 1, "bad words\n"),
         Step::Call(&["soak", "1", "1"], "", 1, "bad words\n"),
         Step::Call(&["SOAK", "1"], "", 1, "bad words\n"),
+        Step::Call(&["soak", "256"], "", 4, "bad size 0\n"),
     ],
     each: &[],
 }];
@@ -93,19 +94,27 @@ fn a_write_of_a_soak_fails(rt: HostRuntime) -> Result<(), Fail> {
     Ok(())
 }
 
-// On a volume of 16,384 blocks with clusters of 4 and 4,096 file numbers.
+// With 1,024 commands, on a volume of 16,384 blocks with clusters of 4 and 4,096 file numbers.
 #[test]
-fn the_longest_soak_is_the_same_twice(rt: HostRuntime) -> Result<(), Fail> {
+fn a_long_soak_leaves_an_accepted_volume(rt: HostRuntime) -> Result<(), Fail> {
     let alloc = rt.alloc();
     let words = ["init", "4", "4096", "BIG"];
     let big = call(alloc, &words, zeros(alloc, 16_384)?, "")?.image;
-    let again = image_of(alloc, big.all(), None)?;
-    let first = call(alloc, &["soak", "256"], big, "")?;
-    let second = call(alloc, &["soak", "256"], again, "")?;
-    assert_eq!(rt; (first.code, second.code), (0, 0));
-    assert!(rt; text_of(&first).starts_with("soak 256: "), "the summary");
-    assert!(rt; text_of(&first) == text_of(&second), "the same twice");
-    let found = call(alloc, &["analyze"], first.image, "")?;
+    let soak = call(alloc, &["soak", "64"], big, "")?;
+    assert_eq!(rt; soak.code, 0);
+    assert!(rt; text_of(&soak).starts_with("soak 64: "), "the summary");
+    let found = call(alloc, &["analyze"], soak.image, "")?;
     assert_eq!(rt; found.code, 0, "the volume");
+    Ok(())
+}
+
+#[test]
+fn a_soak_is_the_same_twice(rt: HostRuntime) -> Result<(), Fail> {
+    let alloc = rt.alloc();
+    let first = call(alloc, &["soak", "8"], volume(alloc)?, "")?;
+    let second = call(alloc, &["soak", "8"], volume(alloc)?, "")?;
+    assert_eq!(rt; (first.code, second.code), (0, 0));
+    assert!(rt; text_of(&first) == text_of(&second), "the summary");
+    assert!(rt; first.image.all() == second.image.all(), "the image");
     Ok(())
 }
