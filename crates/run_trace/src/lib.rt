@@ -12,6 +12,9 @@
 //! walk (`IsTraced`), which is all that is said of a run of `vmsclus`. The image keeps its blocks. Each status is due exactly as that of a run,
 //! and its text is the same.
 //!
+//! With the word `--rebuild` the copy is mended once the last node is over, and the report is that of `vmsclus run --rebuild`, of this very
+//! walk and its mending (`IsTracedMended`). If the copy cannot be mended, the lines come before the text that says so (`IsTracedUnmended`).
+//!
 //! A line has the number of the step, the node, the number of its turn or `-`, and what happened (`event_text`). The steps are the plays of the
 //! schedule, numbered from 1, and then the turns in rotation. The event is read off the world after the turn, beside how the node stood
 //! before it (`turn_read`); that this is the event of that turn is proved of all nineteen kinds of events.
@@ -20,6 +23,7 @@
 #![tactic(auto)]
 
 mod copied;
+mod endings;
 mod marks;
 mod reads;
 mod rounds;

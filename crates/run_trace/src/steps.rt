@@ -1,6 +1,7 @@
 //! A step of a walk, with its lines.
 
 ghost use Rattle.std.specs.Prelude.{◌≡◌, ◌++◌, false, OnOk, IfOk, decimal, option_copied};
+ghost use Rattle.blk_drive.specs.Telling.{IsTold};
 ghost use Rattle.core_state.specs.Worlds.{IsOfWorld, node_at};
 ghost use Rattle.core_state.specs.Deaths.{after_step};
 ghost use Rattle.core_state.specs.Events.{is_over, count_of};
@@ -122,6 +123,7 @@ pub fn step<I: ImageDev, O: Operation>(
     requires alive { is_over w.old.world node ≡ false }
     ensures moved { OnOk result (w.new.world ≡ after_step w.old.world node) }
     ensures text { OnOk result (out.new.items ≡ out.old.items ++ step_text number w.old.world node) }
+    ensures drive { OnOk result (IsTold (I.told w.old.image) w.old.world.blocks → IsTold (I.told w.new.image) w.new.world.blocks) }
 {
     let dies = is_due(w, node);
     let before = waiting_of(alloc, w, nodes_of(w))?;

@@ -1,17 +1,18 @@
 //! The top call: the trace of a run, printed, with its status.
 
-ghost use Rattle.std.specs.Prelude.{◌≡◌, map, string_bytes};
+ghost use Rattle.std.specs.Prelude.{Some, map, string_bytes};
 ghost use Rattle.std.specs.Process.{exit_status};
 ghost use Rattle.run_engine.specs.Inputs.{OfScript, OfImage};
-ghost use Rattle.run_trace.specs.Traced.{wanted_by, IsTraceAnswer, IsTraceCall, IsTraceEnd};
-ghost use Rattle.clus_top.specs.Words.{Run};
-ghost use Rattle.std.specs.Prelude.{Some};
+ghost use Rattle.run_trace.specs.Traced.{wanted, wanted_by, IsTraceAnswer, IsTraceCall, IsTraceEnd};
 
+use crate::endings::{Ending, ending_of};
 use crate::tracing::{Traced, trace_script};
 use blk_drive::ImageDev;
 use clus_top::{good_runs_are_answered, no_other_status_is_due};
 use fx_text::{TextIn, TextOut, Word};
-use run_engine::{Called, Finished, Status, exit_code, no_memory, tell, tell_text, words_of};
+use run_engine::{
+    Called, Finished, Status, exit_code, no_memory, tell, tell_halt, tell_text, words_of,
+};
 use std::alloc::Global;
 
 // Traces the script on a copy of the image, and prints the trace.
@@ -20,19 +21,20 @@ fn traced<I: ImageDev, T: TextIn, O: TextOut>(
     image: I,
     script: &mut T,
     out: &mut O,
+    ending: Ending,
 ) -> Finished<I>
     ensures { OfScript (T.left script.old) (λ bytes. OfImage (I.size image) (I.told image) (I.told result.image) (λ old new.
-        IsTraceAnswer (Some Run) bytes (I.size image) old new (O.written out.old) (O.written out.new)
+        IsTraceAnswer (Some (wanted ending)) bytes (I.size image) old new (O.written out.old) (O.written out.new)
         (T.faults script.old) (T.faults script.new) (I.faults image) (I.faults result.image) (O.faults out.old) (O.faults out.new) result.status)) }
 {
-    let Traced { outcome, image } = trace_script(alloc, image, script);
+    let Traced { outcome, image } = trace_script(alloc, image, script, ending);
     match outcome {
         Ok(text) => {
             let status = tell_text(out, text.as_slice());
             Finished { status, image }
         }
-        Err(status) => {
-            let status = tell(alloc, out, status);
+        Err(halt) => {
+            let status = tell_halt(alloc, out, halt);
             Finished { status, image }
         }
     }
@@ -50,9 +52,9 @@ fn done<I: ImageDev, T: TextIn, O: TextOut>(
         IsTraceAnswer (wanted_by words.now) bytes (I.size image) old new (O.written out.old) (O.written out.new)
         (T.faults script.old) (T.faults script.new) (I.faults image) (I.faults result.image) (O.faults out.old) (O.faults out.new) result.status)) }
 {
-    match words {
-        [] => traced(alloc, image, script, out),
-        [_, ..] => Finished {
+    match ending_of(words) {
+        Some(ending) => traced(alloc, image, script, out, ending),
+        None => Finished {
             status: tell(alloc, out, Status::BadWords),
             image,
         },
@@ -60,10 +62,12 @@ fn done<I: ImageDev, T: TextIn, O: TextOut>(
 }
 
 /// Runs a script on a copy of the image in memory, as `vmsclus` runs it on the image, and prints the events of this run, a line for each,
-/// and then its report. The image is read, and never written. There are no words; with any it is `BadWords`.
+/// and then its report. The image is read, and never written. With the word `--rebuild` the copy is mended once the last node is over, and
+/// the report is that of `run --rebuild`. Other words are `BadWords`.
 ///
 /// A line has the number of the step, the node, the number of its turn (or `-`), and what happened. A turn in which a request goes on waiting
-/// prints none. The statuses and their texts are those of `run`.
+/// prints none. The statuses and their texts are those of `run`, or of `run --rebuild`; if the copy cannot be mended, the lines of the trace come
+/// before that text.
 pub fn vmstrace<I: ImageDev, T: TextIn, O: TextOut>(
     alloc: Global,
     words: &[Word],

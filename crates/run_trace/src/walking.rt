@@ -1,6 +1,7 @@
 //! A walk with its lines: the plays of the schedule, and then turns in rotation.
 
 ghost use Rattle.std.specs.Prelude.{◌≡◌, ◌++◌, ◌+◌, ◌<◌, ◌^◌, OnOk, IfOk, All, length};
+ghost use Rattle.blk_drive.specs.Telling.{IsTold};
 ghost use Rattle.plain_rules.specs.Own.{Whole};
 ghost use Rattle.core_state.specs.Worlds.{IsOfWorld};
 ghost use Rattle.core_state.specs.Ends.{AllOver};
@@ -29,6 +30,7 @@ fn play<I: ImageDev, O: Operation>(
     requires { IsOfWorld w.old.world node }
     ensures played { OnOk result (w.new.world ≡ after_play w.old.world node) }
     ensures text { OnOk result (out.new.items ≡ out.old.items ++ play_text number w.old.world node) }
+    ensures drive { OnOk result (IsTold (I.told w.old.image) w.old.world.blocks → IsTold (I.told w.new.image) w.new.world.blocks) }
 {
     if !w.is_over(node) {
         step(alloc, out, w, number, node)?;
@@ -46,6 +48,7 @@ fn play_all<I: ImageDev, O: Operation>(
     requires { All (IsOfWorld w.old.world) plays.now }
     ensures played { OnOk result (w.new.world ≡ played plays.now w.old.world) }
     ensures text { OnOk result (out.new.items ≡ out.old.items ++ plays_text 1 plays.now w.old.world) }
+    ensures drive { OnOk result (IsTold (I.told w.old.image) w.old.world.blocks → IsTold (I.told w.new.image) w.new.world.blocks) }
 {
     let mut number = 1usize;
     for node in plays {
@@ -67,6 +70,7 @@ fn rotate<I: ImageDev, O: Operation>(
     requires made { made < 2 ^ 63 }
     ensures turned { OnOk result (HasTurned budget (made + 1) w.old.world w.new.world out.old.items out.new.items) }
     ensures over { OnOk result (AllOver w.new.world) }
+    ensures drive { OnOk result (IsTold (I.told w.old.image) w.old.world.blocks → IsTold (I.told w.new.image) w.new.world.blocks) }
 {
     w.keeps_the_rules();
     let mut from = 1u8;
@@ -95,6 +99,7 @@ pub fn walk<I: ImageDev, O: Operation>(
     ensures over { OnOk result (AllOver w.new.world) }
     ensures whole { OnOk result (Whole w.new.world.script w.new.world.history) }
     ensures stays { OnOk result (Stays w.old.world w.new.world) }
+    ensures drive { OnOk result (IsTold (I.told w.old.image) w.old.world.blocks → IsTold (I.told w.new.image) w.new.world.blocks) }
 {
     let budget = budget_of(w);
     let list = plays.items();

@@ -1,10 +1,12 @@
-//! The program `vmstrace IMAGE SCRIPT`: it runs a script on a copy of a volume in memory, and prints each event of the run, and its report.
+//! The program `vmstrace IMAGE SCRIPT [--rebuild]`: it runs a script on a copy of a volume in memory, and prints each event of the run, and its
+//! report. With `--rebuild` the copy is mended then, and the report is that of `vmsclus run --rebuild`.
 //!
 //! It opens the image, to be read and never written, under a shared lock, and the script, of which `-` is standard input, and makes the
 //! call of `run_trace`.
 //!
 //! ```text
 //! vmstrace volume.img first.script
+//! vmstrace volume.img first.script --rebuild
 //! ```
 //!
 //! It ends with the number of the status. What it takes from the system no contract says; its stored run shows a trace over real files.

@@ -1,6 +1,8 @@
 use Rattle.std.proofs.Common.{◌∙◌, sym, ap, subst}
 use Rattle.core_state.specs.Worlds.{state_of}
 use Rattle.run_engine.specs.Walks.{Stays}
+use Rattle.run_engine.proofs.Driving.{told_well}
+use Rattle.run_engine.proofs.MendedDrives.{told_now}
 use Rattle.run_engine.proofs.Staying.{step_stays, still_of_world}
 use Rattle.run_trace.specs.Reads.{mark_of}
 use Rattle.run_trace.proofs.Stepping.{step_is}
@@ -35,3 +37,6 @@ returns-clause-text g c =
     c.in_ok-before.before.space.items c.in_ok-before.before.command.items c.args.out.now.items c.push_own.new.out.items c.push_grants.new.out.items
     c.node_of.ensures c.requires.alive c.is_due-dies.ensures (c.mark_of-mark.ensures ∙ ap (λ h. mark_of h.world.locks n s) c.w.view_is) c.in_ok-turn.ensures.answer
     c.in_ok-before.ensures.space c.in_ok-before.ensures.command c.in_ok-push_own.ensures c.in_ok-push_grants.ensures
+
+pub returns-clause-drive : goal.returns-clause-drive
+returns-clause-drive g c = λ told. told_now _ _ _ (told_well _ _ _ (c.in_ok-turn.ensures.drive told) (λ p. cc))

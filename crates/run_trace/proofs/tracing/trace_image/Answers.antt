@@ -1,11 +1,12 @@
 use Rattle.std.proofs.Common.{sym, subst, refl}
 use Rattle.run_engine.proofs.Given.{image_stays}
+use Rattle.run_engine.proofs.Results.{if_err}
 use Rattle.run_trace.specs.Inside.{IsImageEndOf}
-use Rattle.run_trace.proofs.Traces.{load_end}
+use Rattle.run_trace.proofs.Traces.{image_halt, load_end}
 use Rattle.run_trace.proofs.tracing.trace_image.Goals as goal
 
-pub returns-in-Err-clause-end : goal.returns-in-Err-clause-end
-returns-in-Err-clause-end g c =
+pub returns-in-Err-clause-halt : goal.returns-in-Err-clause-halt
+returns-in-Err-clause-halt g c =
     let size = g.I.ImageDev.size c.args.image in
     let had = g.I.ImageDev.faults c.args.image in
     let has = g.I.ImageDev.faults c.in-Err.field-0.image in

@@ -10,6 +10,7 @@ pub loop-turns-init : goal.loop-turns-init
 loop-turns-init g c = record {
   at = rotation_none (record { world = c.args.w.now.world; from = 1 });
   text = turns_first c.args.out.now.items (c.args.made + 1) (record { world = c.args.w.now.world; from = 1 });
+  drive = λ told. told;
   low = omega arith;
   high = omega arith;
   good = c.keeps_the_rules.ensures.good;
@@ -24,6 +25,7 @@ loop-turns-preserved g c =
       at = rotation_more c.loop-turns.turns (record { world = c.args.w.now.world; from = 1 }) c.loop-turns.w.world c.loop-turns.from c.in-Some.node c.step.new.w.world c.loop-turns.invariant.at c.in-Some.ensures.next c.in_ok-step-in-Some.ensures.moved;
       text = appended _ _ _ _ _ _ c.loop-turns.invariant.text c.in_ok-step-in-Some.ensures.text
           (turns_more (c.args.made + 1) c.loop-turns.turns (record { world = c.args.w.now.world; from = 1 }) c.loop-turns.w.world c.loop-turns.from c.in-Some.node c.loop-turns.invariant.at c.in-Some.ensures.next);
+      drive = λ told. c.in_ok-step-in-Some.ensures.drive (c.loop-turns.invariant.drive told);
       low = omega arith;
       high = omega (arith, c.in-Some.ensures.of_world.to, stays.count);
       good = c.keeps_the_rules-in-Some.ensures.good;
