@@ -1,5 +1,5 @@
 -- What preparing for an event leaves of a node, and what the event says of it.
-use Rattle.std.proofs.Common.{◌≡◌, ℕ, Bool, true, false, cond, List, Option, Some, None, slice_get, refl, sym, ap, ◌∙◌}
+use Rattle.std.proofs.Common.{◌≡◌, ℕ, Bool, true, false, cond, List, Option, Some, None, slice_get, refl, ap, ◌∙◌}
 use Rattle.std.specs.Prelude.{◌||◌, ◌&&◌, not}
 use Rattle.lock_db.specs.declared.name.LockName.{LockName}
 use Rattle.lock_db.specs.declared.name.LockName.TheVariants.{V}
@@ -23,7 +23,7 @@ use Rattle.core_state.specs.Worlds.{NodeState, Plain}
 use Rattle.core_state.specs.Asks.{writes_by}
 use Rattle.core_state.specs.Event.{Event}
 use Rattle.core_state.specs.Event as event
-use Rattle.core_state.specs.Events.{space_need, space_state, phase_begun, serves, by_rule, by_put, by_space, by_need, by_end, by_write, by_plan, by_command, by_back, by_turn, gives_back, stands, event_of, is_out, begun, serving, served_for, served_by, served, is_held_up, prepared, prepared_by, has_current, or_use}
+use Rattle.core_state.specs.Events.{space_need, space_state, phase_begun, serves, by_rule, by_put, by_space, by_need, by_end, by_write, by_plan, by_command, by_turn, gives_back, stands, event_of, is_out, serving, served_for, served_by, served, is_held_up, prepared, prepared_by, has_current, or_use}
 use Rattle.run_trace.specs.Reads.{plan_writes}
 use Rattle.run_trace.proofs.Growing.{get_taken}
 

@@ -1,11 +1,11 @@
 -- The lines of one step more.
-use Rattle.std.proofs.Common.{◌≡◌, ◌≤◌, ◌<◌, ◌+◌, ◌++◌, ℕ, zero, suc, List, [], ◌∷◌, Option, Some, length, take, refl, sym, ap, subst, ◌∙◌, arith, append_assoc, append-nil}
+use Rattle.std.proofs.Common.{◌≡◌, ◌≤◌, ◌<◌, ◌+◌, ◌++◌, ℕ, suc, List, [], ◌∷◌, Some, length, take, refl, sym, ap, subst, ◌∙◌, arith, append_assoc, append-nil}
 use Rattle.std.specs.Prelude.{slice_index_or}
 use Rattle.std.proofs.lemmas.List.{take_more, length-take-le}
 use Rattle.lock_db.specs.declared.name.LockName.{LockName}
 use Rattle.lock_db.specs.declared.resource.Resource.{Resource}
 use Rattle.core_state.specs.Worlds.{Plain}
-use Rattle.run_engine.specs.Walks.{after_play, played, next_from, Rotation, rotation, rotated, budget_of, IsRotatedIn}
+use Rattle.run_engine.specs.Walks.{after_play, played, next_from, Rotation, rotation, rotated, budget_of}
 use Rattle.run_trace.specs.Texts.{holder_text, holders_text}
 use Rattle.run_trace.specs.Steps.{play_text, plays_text, next_text, rotated_text, turns_text, step_text, walk_text}
 use Rattle.run_trace.specs.Walks.{HasTurned, HasWalked}

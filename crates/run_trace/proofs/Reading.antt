@@ -18,7 +18,7 @@ use Rattle.core_space.specs.declared.run.Phase.{Phase}
 use Rattle.core_state.specs.Worlds.{NodeState, Plain, node_at, with_node}
 use Rattle.core_state.specs.Event.{Event}
 use Rattle.core_state.specs.Event as event
-use Rattle.core_state.specs.Events.{is_out, told_by, decision_on, turned, locking, claiming, caching, looking, using, space_looking, space_using, space_writing, writing, lowering, lowering_both, returning, planning, asking, answering, leaving, cache_looked, cache_used, cache_written, block_used, would_go, asked_by, answered_by, happens, happen_at, prepared, readied, event_of, event_now, next_event, after_turn, command_in, command_at}
+use Rattle.core_state.specs.Events.{told_by, decision_on, turned, locking, claiming, caching, looking, using, space_looking, space_using, space_writing, writing, lowering, lowering_both, returning, planning, asking, answering, leaving, cache_looked, cache_used, cache_written, block_used, would_go, asked_by, answered_by, happens, happen_at, prepared, readied, event_of, event_now, next_event, after_turn, command_in, command_at}
 use Rattle.core_state.proofs.Nodes.{at_here}
 use Rattle.core_state.proofs.Preparing.{readied_is}
 use Rattle.core_step.specs.declared.turns.Turn.{Turn}

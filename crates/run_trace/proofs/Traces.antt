@@ -1,7 +1,6 @@
 -- The trace of a run on a mounted volume, and of a script that is read.
-use Rattle.std.proofs.Common.{◌≡◌, ◌∙◌, ◌++◌, ◌≤◌, ℕ, List, [], Option, Some, refl, sym, ap, subst, arith, inl, inr}
+use Rattle.std.proofs.Common.{◌≡◌, ◌∙◌, ◌++◌, ℕ, List, [], Option, Some, refl, sym, ap, subst, inl, inr}
 use Rattle.base_words.specs.Fields.{Block}
-use Rattle.base_words.specs.Faults.{Rose}
 use Rattle.blk_drive.specs.Images.{IsInside, IsOutside}
 use Rattle.blk_drive.specs.Loads.{HasLoadCause}
 use Rattle.blk_drive.specs.declared.mirror.LoadFault.{LoadFault}
@@ -19,7 +18,7 @@ use Rattle.core_state.specs.declared.mounting.MountFault.{MountFault}
 use Rattle.core_state.specs.declared.mounting.MountFault.TheVariants as mount
 use Rattle.core_state.specs.Ends.{AllOver}
 use Rattle.run_engine.specs.Ended.{HasEnded}
-use Rattle.run_engine.specs.Halts.{IsMendedBy, IsUnmendedBy, IsHaltBy}
+use Rattle.run_engine.specs.Halts.{IsMendedBy, IsUnmendedBy}
 use Rattle.run_engine.specs.Inputs.{Leaves}
 use Rattle.run_engine.specs.Stops.{report_text, mount_status, load_status}
 use Rattle.run_engine.specs.Scripts.{IsScriptOf, SpellsWithin}
@@ -32,16 +31,13 @@ use Rattle.run_engine.proofs.Ending.{over_is_spelt}
 use Rattle.run_engine.proofs.Given.{good}
 use Rattle.run_engine.proofs.Walked.{over_walk}
 use Rattle.clus_top.specs.declared.run_job.Printed.TheVariants as printed
-use Rattle.clus_top.specs.Ends.{IsEndIn, IsRunEnd}
-use Rattle.clus_top.specs.MendedRuns.{IsMendedReport}
-use Rattle.clus_top.specs.Images.{IsUnmendedText}
-use Rattle.clus_top.specs.Runs.{HasRunToEnd}
+use Rattle.clus_top.specs.Ends.{IsRunEnd}
 use Rattle.clus_top.proofs.Answered.{IsAnswered, step_keeps}
 use Rattle.clus_top.proofs.Jobs.{ran_to_end}
 use Rattle.clus_top.proofs.Reported.{has_run, drive_in, whole_in, answered}
 use Rattle.run_trace.specs.declared.endings.Ending.{Ending}
 use Rattle.run_trace.specs.declared.endings.Ending.TheVariants as ending
-use Rattle.run_trace.specs.Inside.{IsEndText, IsRefusalText, IsBehind, IsRefusedBehind, IsHaltBehind, IsTracedIn, IsEndOf, IsHaltOf, IsImageEndOf, IsImageHaltOf, IsTracedOf, IsRefusedOf, IsTraceHalt}
+use Rattle.run_trace.specs.Inside.{IsEndText, IsRefusalText, IsBehind, IsRefusedBehind, IsHaltBehind, IsTracedIn, IsEndOf, IsHaltOf, IsImageEndOf, IsImageHaltOf, IsTracedOf, IsTraceHalt}
 use Rattle.run_trace.specs.Steps.{walk_text}
 use Rattle.run_trace.specs.Traced.{IsTraced, IsTracedMended, IsTracedUnmended, IsTraceOf, wanted}
 use Rattle.run_trace.specs.Walks.{HasWalked}

@@ -1,5 +1,5 @@
 -- What is read off a world after the turn of a node: where its counts rose that were marked before it.
-use Rattle.std.specs.Prelude.{◌-◌, ◌++◌, ◌&&◌, not, ℕ, Bool, List, [], Option, Some, None, codes, decimal, length, nat_lt, slice_get, is_some, if◌then◌else◌}
+use Rattle.std.specs.Prelude.{◌-◌, ◌++◌, ◌&&◌, not, ℕ, Bool, List, [], Option, Some, None, codes, decimal, length, nat_lt, slice_get, if◌then◌else◌}
 use Rattle.base_words.specs.Fields.{Block}
 use Rattle.lock_db.specs.declared.name.LockName.{LockName}
 use Rattle.lock_db.specs.declared.name.LockName.TheVariants.{A}

@@ -1,12 +1,12 @@
 -- The lines of a run: for each step of its walk that of its event, and one for each wait that it has ended.
-use Rattle.std.specs.Prelude.{◌-◌, ◌+◌, ◌++◌, ◌||◌, not, ℕ, zero, suc, Bool, false, List, [], ◌∷◌, Option, Some, None, codes, decimal, flat_map, length, slice_get, if◌then◌else◌}
+use Rattle.std.specs.Prelude.{◌-◌, ◌+◌, ◌++◌, ◌||◌, ℕ, zero, suc, Bool, false, List, [], ◌∷◌, Option, Some, None, codes, decimal, flat_map, length, slice_get, if◌then◌else◌}
 use Rattle.lock_db.specs.declared.name.LockName.{LockName}
 use Rattle.plain_cat.specs.declared.mode.Mode.{Mode}
 use Rattle.plain_cat.specs.declared.history.Entry.{Entry}
 use Rattle.node_locks.specs.Held.{waits_at}
 use Rattle.core_state.specs.Worlds.{NodeState, Plain, node_at}
 use Rattle.core_state.specs.Event.{Event}
-use Rattle.core_state.specs.Events.{is_out, is_over, next_event, after_turn, count_of}
+use Rattle.core_state.specs.Events.{is_over, next_event, after_turn, count_of}
 use Rattle.core_state.specs.Deaths.{is_due, died, after_step}
 use Rattle.run_engine.specs.Walks.{after_play, played, next_from, Rotation, rotation}
 use Rattle.run_trace.specs.declared.waits.Wait.{Wait}

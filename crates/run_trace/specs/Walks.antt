@@ -1,7 +1,7 @@
 -- A walk that was made with its lines.
-use Rattle.std.specs.Prelude.{◌≡◌, ◌++◌, ◌+◌, ℕ, List}
+use Rattle.std.specs.Prelude.{◌≡◌, ◌++◌, ℕ, List}
 use Rattle.core_state.specs.Worlds.{Plain}
-use Rattle.run_engine.specs.Walks.{played, budget_of, Rotation, IsRotatedIn}
+use Rattle.run_engine.specs.Walks.{played, budget_of, IsRotatedIn}
 use Rattle.run_trace.specs.Steps.{turns_text, walk_text}
 
 -- turns in rotation, at most so many, have led from one world to the other, and their lines, the first with the number k, were written

@@ -1,3 +1,5 @@
 pub mod Runs
 pub mod Numbered
 pub mod Ways
+pub mod Downs
+pub mod GoodLines

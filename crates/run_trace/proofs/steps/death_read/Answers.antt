@@ -1,4 +1,4 @@
-use Rattle.std.proofs.Common.{◌∙◌, ◌++◌, sym, ap}
+use Rattle.std.proofs.Common.{◌∙◌, ◌++◌, ap}
 use Rattle.run_trace.specs.Steps.{dying_text, last_entry}
 use Rattle.run_trace.proofs.Shows.{dying_shown}
 use Rattle.run_trace.proofs.steps.death_read.Goals as goal

@@ -1,8 +1,7 @@
 use Rattle.std.proofs.Common.{sym, subst, refl}
 use Rattle.run_engine.proofs.Given.{image_stays}
-use Rattle.run_engine.proofs.Results.{if_err}
 use Rattle.run_trace.specs.Inside.{IsImageEndOf}
-use Rattle.run_trace.proofs.Traces.{image_halt, load_end}
+use Rattle.run_trace.proofs.Traces.{load_end}
 use Rattle.run_trace.proofs.tracing.trace_image.Goals as goal
 
 pub returns-in-Err-clause-halt : goal.returns-in-Err-clause-halt

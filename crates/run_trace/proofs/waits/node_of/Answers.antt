@@ -1,4 +1,4 @@
-use Rattle.std.proofs.Common.{ap, sym, ◌∙◌}
+use Rattle.std.proofs.Common.{ap, sym}
 use Rattle.core_state.specs.Worlds.{state_of}
 use Rattle.core_state.proofs.Nodes.{node_told}
 use Rattle.run_trace.proofs.waits.node_of.Goals as goal

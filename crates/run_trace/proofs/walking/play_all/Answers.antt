@@ -1,4 +1,4 @@
-use Rattle.std.proofs.Common.{◌≡◌, ◌∙◌, refl, sym, ap, arith}
+use Rattle.std.proofs.Common.{refl, arith}
 use Rattle.run_engine.proofs.Staying.{played_stays, still_of_world}
 use Rattle.run_engine.proofs.Playing.{play_more}
 use Rattle.run_trace.proofs.Lines.{appended, plays_first, plays_more}

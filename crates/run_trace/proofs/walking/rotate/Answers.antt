@@ -1,4 +1,4 @@
-use Rattle.std.proofs.Common.{◌≡◌, ◌+◌, ◌∙◌, sym, subst, arith}
+use Rattle.std.proofs.Common.{◌+◌, sym, subst, arith}
 use Rattle.run_engine.specs.Walks.{Stays}
 use Rattle.run_engine.proofs.Staying.{step_stays}
 use Rattle.run_engine.proofs.Rotating.{rotation_none, rotation_more}
